@@ -1,7 +1,6 @@
 //! Cases for the ground of the station: readings, decimals, whites, the way from X, Y, Z to the
-//! grid, roots, and figures handed back. Each case comes with the answer of the paper, 01-scope.md.
-//! It is worked out here in whole numbers alone and from the paper alone, so that it can disagree
-//! with the proved code. tests/ground.c replays the cases.
+//! grid, roots, and figures handed back. Each case comes with the answer of the paper, which
+//! tests/paper.rs works out. tests/ground.c replays the cases.
 //!
 //! Usage: ground >ground.txt
 //!
@@ -23,268 +22,20 @@
 use std::fmt::Write as _;
 use std::io::Write as _;
 
-// -------------------------------------------------------------------------------------------------
-// Readings become whole numbers
-// -------------------------------------------------------------------------------------------------
+#[path = "paper.rs"]
+mod paper;
+#[path = "random.rs"]
+mod random;
 
-/// "One is 1,048,576 units."
-const ONE: u128 = 1 << 20;
-const MILLION: u128 = 1_000_000;
+use paper::Quantity::{self, Lightness, Opponent, Tristimulus};
+use paper::{above_cut, f, float_near, millionths, units, Answer};
+use paper::{FRACTION, INFINITY, MILLION, ONE, SIGN, WHITES};
+use random::Random;
 
-const SIGN: u64 = 1 << 63;
-const FRACTION: u64 = (1 << 52) - 1;
-const INFINITY: u64 = 0x7ff << 52;
 const QUIET_NAN: u64 = INFINITY | 1 << 51;
 const SIGNALLING_NAN: u64 = INFINITY | 1;
 
-/// The refusal numbers that can come from a colour.
-const WRONG_WHITE: u32 = 2;
-const NOT_A_NUMBER: u32 = 5;
-const OUT_OF_RANGE: u32 = 6;
-const BEYOND_256: u32 = 8;
-
-/// An answer, or the number of its refusal.
-type Answer<T> = Result<T, u32>;
-
-#[derive(Clone, Copy)]
-enum Quantity {
-    Tristimulus,
-    Lightness,
-    Opponent,
-}
-
-use Quantity::{Lightness, Opponent, Tristimulus};
-
 const QUANTITIES: [Quantity; 3] = [Tristimulus, Lightness, Opponent];
-
-impl Quantity {
-    /// "X, Y, Z: 0 to 150 each"; "L*: 0 to 120. a*, b*: -256 to 256."
-    fn highest(self) -> u128 {
-        match self {
-            Tristimulus => 150,
-            Lightness => 120,
-            Opponent => 256,
-        }
-    }
-
-    fn may_be_negative(self) -> bool {
-        matches!(self, Opponent)
-    }
-
-    /// X, Y and Z are "kept as millionths", the others "on the grid".
-    fn units_in_one(self) -> u128 {
-        match self {
-            Tristimulus => MILLION,
-            Lightness | Opponent => ONE,
-        }
-    }
-
-    /// The number that stands for the quantity in a call. a* and b* have every number but 1 and 2;
-    /// `pick` says which.
-    fn number(self, pick: u64) -> u32 {
-        match self {
-            Tristimulus => 1,
-            Lightness => 2,
-            Opponent => [3, 0, 4, u32::MAX][pick as usize % 4],
-        }
-    }
-}
-
-/// A value that nothing has rounded: the magnitude top / bottom, with a minus before it or not.
-struct Exact {
-    minus: bool,
-    top: u128,
-    bottom: u128,
-}
-
-/// The exact value of an f64, or none if it is not-a-number or infinite.
-fn exact_float(bits: u64) -> Option<Exact> {
-    let field = ((bits >> 52) & 0x7ff) as i32;
-    if field == 0x7ff {
-        return None;
-    }
-    // Subnormal numbers have no leading one, and the exponent of the smallest normal ones.
-    let leading = if field == 0 { 0 } else { 1 << 52 };
-    let significand = u128::from(bits & FRACTION) + leading;
-    // The magnitude is significand * 2^power. Beyond these two limits of the power all numbers but
-    // zero act alike: below 2^-47 they are far less than half a unit, from 2^60 on they are
-    // outside every range.
-    let power = (field.max(1) - 1075).clamp(-100, 60);
-    Some(Exact {
-        minus: bits & SIGN != 0,
-        top: significand << power.max(0),
-        bottom: 1 << (-power).max(0),
-    })
-}
-
-/// A decimal's exact value: its digits as millionths.
-fn exact_decimal(minus: bool, millionths: u64) -> Exact {
-    Exact {
-        minus,
-        top: u128::from(millionths),
-        bottom: MILLION,
-    }
-}
-
-/// The whole number nearest to top / bottom. A tie goes up, which for a magnitude is away from
-/// zero.
-fn nearest(top: u128, bottom: u128) -> u128 {
-    (2 * top + bottom) / (2 * bottom)
-}
-
-/// "Ranges are tested on the exact value before rounding", then "the nearest to the float's exact
-/// value, a tie away from zero. -0.0 is zero." "The decimal's exact value is read by the same
-/// rounding as a float's."
-fn units(quantity: Quantity, value: &Exact) -> Answer<i64> {
-    let over = value.top > quantity.highest() * value.bottom;
-    let under = value.minus && value.top > 0 && !quantity.may_be_negative();
-    if over || under {
-        return Err(OUT_OF_RANGE);
-    }
-    let magnitude = nearest(value.top * quantity.units_in_one(), value.bottom) as i64;
-    Ok(if value.minus { -magnitude } else { magnitude })
-}
-
-fn reading_units(quantity: Quantity, bits: u64) -> Answer<i64> {
-    units(quantity, &exact_float(bits).ok_or(NOT_A_NUMBER)?)
-}
-
-/// "5 for any of its three, 6": a reading that is no number is refused before one that is out of
-/// range, whichever comes first among the three.
-fn three_units(quantities: [Quantity; 3], readings: [u64; 3]) -> Answer<[i64; 3]> {
-    let answers = [0, 1, 2].map(|place: usize| reading_units(quantities[place], readings[place]));
-    for number in [NOT_A_NUMBER, OUT_OF_RANGE] {
-        if answers.contains(&Err(number)) {
-            return Err(number);
-        }
-    }
-    Ok(answers.map(|answer| answer.expect("none of the three is refused")))
-}
-
-/// "Handed back as f64, each exactly units divided by 2^20, zero as +0.0." Up to 2^53 every unit is
-/// held exactly.
-fn handed_back(units: i64) -> u64 {
-    let sign = if units < 0 { SIGN } else { 0 };
-    sign | float_near(u128::from(units.unsigned_abs()), ONE)
-}
-
-/// The bits of the f64 nearest to top / bottom, for a quotient that is 0 or lies from 2^-60 to
-/// 2^52.
-fn float_near(top: u128, bottom: u128) -> u64 {
-    if top == 0 {
-        return 0;
-    }
-    // The shift that gives the quotient 53 binary digits, or one that is too small by 1.
-    let shift = 52 + top.leading_zeros() - bottom.leading_zeros();
-    let shift = if (top << shift) / bottom < 1 << 52 {
-        shift + 1
-    } else {
-        shift
-    };
-    let significand = nearest(top << shift, bottom) as u64;
-    // Added, not joined: a significand that was rounded up to 2^53 has to raise the exponent.
-    (u64::from(1023 + 52 - shift) << 52) + (significand - (1 << 52))
-}
-
-// -------------------------------------------------------------------------------------------------
-// Roots, whites, and from X, Y, Z to the grid
-// -------------------------------------------------------------------------------------------------
-
-/// The greatest whole number below `end` that passes a test. 0 passes it, and no number above one
-/// that fails does.
-fn greatest(end: u128, passes: impl Fn(u128) -> bool) -> u128 {
-    let (mut low, mut high) = (0, end);
-    while high - low > 1 {
-        let middle = (low + high) / 2;
-        if passes(middle) {
-            low = middle;
-        } else {
-            high = middle;
-        }
-    }
-    low
-}
-
-fn square_root(x: u64) -> u128 {
-    greatest(1 << 32, |root| root * root <= u128::from(x))
-}
-
-fn cube_root(x: u64) -> u128 {
-    greatest(1 << 22, |root| root * root * root <= u128::from(x))
-}
-
-/// Document 000, Table 1: Xn, Yn, Zn in millionths.
-const WHITES: [[u128; 3]; 4] = [
-    [94_811_000, 100_000_000, 107_304_000],
-    [95_047_000, 100_000_000, 108_883_000],
-    [97_285_000, 100_000_000, 116_145_000],
-    [98_074_000, 100_000_000, 118_232_000],
-];
-
-/// "White number not 1 to 4."
-fn white_numbered(number: u32) -> Answer<[u128; 3]> {
-    match number {
-        1..=4 => Ok(WHITES[number as usize - 1]),
-        _ => Err(WRONG_WHITE),
-    }
-}
-
-/// "q is the exact fraction X/Xn"; this is q > 0.008856.
-fn above_cut(x: u128, xn: u128) -> bool {
-    x * MILLION > 8856 * xn
-}
-
-/// "If q > 0.008856, f is the greatest whole number whose cube is at most q times 2^60. Otherwise f
-/// is 2^20 times (7.787q + 16/116), rounded down once."
-fn f(x: u128, xn: u128) -> i64 {
-    let whole = if above_cut(x, xn) {
-        greatest(1 << 21, |root| root * root * root * xn <= x << 60)
-    } else {
-        ONE * (7787 * 116 * x + 16 * 1000 * xn) / (1000 * 116 * xn)
-    };
-    whole as i64
-}
-
-/// "L* = 116fy - 16 times 2^20 if Y/Yn > 0.008856; otherwise 2^20 times 903.3 Y/Yn, rounded down."
-fn lightness(y: u128, yn: u128) -> i64 {
-    if above_cut(y, yn) {
-        116 * f(y, yn) - 16 * ONE as i64
-    } else {
-        (ONE * 9033 * y / (10 * yn)) as i64
-    }
-}
-
-/// "a* = 500(fx - fy), b* = 200(fy - fz)"; "if a* or b* then lies beyond 256, the colour is
-/// refused."
-fn grid_colour(xyz: [u128; 3], white: [u128; 3]) -> Answer<[i64; 3]> {
-    let [fx, fy, fz] = [0, 1, 2].map(|place: usize| f(xyz[place], white[place]));
-    let (a, b) = (500 * (fx - fy), 200 * (fy - fz));
-    let limit = 256 * ONE as i64;
-    if a.abs() > limit || b.abs() > limit {
-        return Err(BEYOND_256);
-    }
-    Ok([lightness(xyz[1], white[1]), a, b])
-}
-
-fn place_xyz(white: u32, readings: [u64; 3]) -> Answer<[i64; 3]> {
-    let white = white_numbered(white)?;
-    let xyz = three_units([Tristimulus; 3], readings)?;
-    grid_colour(xyz.map(|millionths| millionths as u128), white)
-}
-
-fn place_lab(white: u32, readings: [u64; 3]) -> Answer<[i64; 3]> {
-    white_numbered(white)?;
-    three_units([Lightness, Opponent, Opponent], readings)
-}
-
-/// The figures that the paper itself gives (sheet cases 1 to 3). If the rules above were read
-/// wrongly, this stops them.
-fn paper_figures() {
-    let white = WHITES[0].map(millionths);
-    assert_eq!(place_xyz(1, white), Ok([104_857_600, 0, 0]));
-    assert_eq!(place_xyz(1, [0; 3]), Ok([0, 0, 0]));
-    assert_eq!(lightness(885_600, 100_000_000), 8_388_214);
-}
 
 // -------------------------------------------------------------------------------------------------
 // The lines
@@ -303,10 +54,10 @@ impl Cases {
     }
 
     fn reading(&mut self, quantity: Quantity, bits: u64) {
-        let (refusal, units) = figures(reading_units(quantity, bits));
+        let (refusal, units) = figures(paper::reading_units(quantity, bits));
         self.line(format!(
             "u {} {bits:016x} {refusal} {units}",
-            quantity.number(bits)
+            number(quantity, bits)
         ));
     }
 
@@ -324,10 +75,10 @@ impl Cases {
         } else {
             0
         };
-        let (refusal, units) = figures(units(quantity, &exact_decimal(minus, millionths)));
+        let (refusal, units) = figures(units(quantity, &paper::exact_decimal(minus, millionths)));
         self.line(format!(
             "d {} {below} {millionths} {refusal} {units}",
-            quantity.number(millionths)
+            number(quantity, millionths)
         ));
     }
 
@@ -341,11 +92,11 @@ impl Cases {
     }
 
     fn xyz(&mut self, white: u32, readings: [u64; 3]) {
-        self.colour('x', white, readings, place_xyz(white, readings));
+        self.colour('x', white, readings, paper::place_xyz(white, readings));
     }
 
     fn lab(&mut self, white: u32, readings: [u64; 3]) {
-        self.colour('l', white, readings, place_lab(white, readings));
+        self.colour('l', white, readings, paper::place_lab(white, readings));
     }
 
     fn colour(&mut self, kind: char, white: u32, [p, q, r]: [u64; 3], answer: Answer<[i64; 3]>) {
@@ -356,15 +107,15 @@ impl Cases {
     }
 
     fn square(&mut self, x: u64) {
-        self.line(format!("s {x} {}", square_root(x)));
+        self.line(format!("s {x} {}", paper::square_root(x.into())));
     }
 
     fn cube(&mut self, x: u64) {
-        self.line(format!("c {x} {}", cube_root(x)));
+        self.line(format!("c {x} {}", paper::cube_root(x)));
     }
 
     fn value(&mut self, units: i64) {
-        self.line(format!("v {units} {:016x}", handed_back(units)));
+        self.line(format!("v {units} {:016x}", paper::handed_back(units)));
     }
 
     fn values(&mut self, magnitudes: impl IntoIterator<Item = i64>) {
@@ -372,6 +123,16 @@ impl Cases {
             self.value(magnitude);
             self.value(-magnitude);
         }
+    }
+}
+
+/// The number that stands for the quantity in a call. a* and b* have every number but 1 and 2; `pick`
+/// says which.
+fn number(quantity: Quantity, pick: u64) -> u32 {
+    match quantity {
+        Tristimulus => 1,
+        Lightness => 2,
+        Opponent => [3, 0, 4, u32::MAX][pick as usize % 4],
     }
 }
 
@@ -387,28 +148,9 @@ fn figures<T: Default>(answer: Answer<T>) -> (u32, T) {
 // Numbers to try
 // -------------------------------------------------------------------------------------------------
 
-/// Steele, Lea and Flood's splitmix64. The seed is fixed, so every run has the same cases.
-struct Random(u64);
-
 impl Random {
-    fn next(&mut self) -> u64 {
-        self.0 = self.0.wrapping_add(0x9e37_79b9_7f4a_7c15);
-        let mixed = (self.0 ^ (self.0 >> 30)).wrapping_mul(0xbf58_476d_1ce4_e5b9);
-        let mixed = (mixed ^ (mixed >> 27)).wrapping_mul(0x94d0_49bb_1331_11eb);
-        mixed ^ (mixed >> 31)
-    }
-
-    fn below(&mut self, end: u64) -> u64 {
-        ((u128::from(self.next()) * u128::from(end)) >> 64) as u64
-    }
-
     fn sign(&mut self) -> u64 {
         self.next() & SIGN
-    }
-
-    /// A number with exactly that many binary digits, from 1 to 64.
-    fn of_width(&mut self, width: u32) -> u64 {
-        (self.next() | SIGN) >> (64 - width)
     }
 
     /// A float of either sign, even over the values whose magnitude is below `end`.
@@ -451,11 +193,6 @@ impl Random {
     fn three(&mut self, reading: impl Fn(&mut Random) -> u64) -> [u64; 3] {
         [0; 3].map(|_| reading(self))
     }
-}
-
-/// The float nearest to so many millionths.
-fn millionths(count: u128) -> u64 {
-    float_near(count, MILLION)
 }
 
 /// A magnitude with its two neighbours on either side, all with either sign.
@@ -604,7 +341,7 @@ fn near_white(cases: &mut Cases, number: u32, white: [u128; 3]) {
 /// it as a reading. Only Y can lie on the cut.
 fn around_cut(cases: &mut Cases, random: &mut Random, number: u32, white: [u128; 3]) {
     for place in 0..3 {
-        let last = greatest(150_000_000, |x| !above_cut(x, white[place]));
+        let last = paper::greatest(150_000_000, |x| !above_cut(x, white[place]));
         for tenths in 10 * last - 20..=10 * last + 30 {
             for _ in 0..16 {
                 let mut readings = random.three(Random::tristimulus_of_any_size);
@@ -621,7 +358,7 @@ fn steps_of_f(cases: &mut Cases, random: &mut Random, number: u32, white: [u128;
         let (lowest, highest) = (f(0, white[place]), f(150_000_000, white[place]));
         for _ in 0..500 {
             let wanted = highest - random.below((highest - lowest) as u64) as i64;
-            let before = greatest(150_000_000, |x| f(x, white[place]) < wanted);
+            let before = paper::greatest(150_000_000, |x| f(x, white[place]) < wanted);
             for x in [before, before + 1] {
                 let mut readings = random.three(Random::tristimulus);
                 readings[place] = millionths(x);
@@ -639,7 +376,7 @@ fn around_256(cases: &mut Cases, random: &mut Random, number: u32, white: [u128;
         for _ in 0..500 {
             let low = u128::from(random.below(24_000_000));
             let wanted = f(low, white[dark]) + least_beyond;
-            let before = greatest(150_000_000, |x| f(x, white[bright]) < wanted);
+            let before = paper::greatest(150_000_000, |x| f(x, white[bright]) < wanted);
             for high in [before, before + 1] {
                 let mut readings = [random.tristimulus(); 3];
                 readings[dark] = millionths(low);
@@ -777,7 +514,7 @@ fn mixtures<const N: usize>(
 }
 
 fn main() -> std::io::Result<()> {
-    paper_figures();
+    paper::paper_figures();
     let mut cases = Cases {
         text: String::new(),
         count: 0,

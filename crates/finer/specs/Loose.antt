@@ -1,0 +1,128 @@
+-- Section 2 of the argument, what a loose sheet is: numbers that satisfy each line of the sheet to within K, N being 1 in their unit, and that
+-- have the sizes which the sheet is known to have (`1≤2SC`: SC is at least 1/2). The sheet at n places is one (`Loose/AtPlaces.antt`), and K
+-- times the sheet at 20 places is one of the same colours (`Loose/AtTwenty.antt`): what follows then speaks of any two. Assumes nothing.
+use mathlib.Core.Path.{_≡_}
+use mathlib.Core.Bool.{Bool, true, false}
+use mathlib.Core.Logic.{_⊎_}
+use Prim.Native.Nat.{ℕ, _+_, _-_, _*_, _≤_, _<_}
+use Rattle.sheet.specs.declared.formula.Formula.{Formula}
+use Rattle.sheet.specs.declared.formula.Formula.the-variants.{CIELAB, CIE94, CMC}
+use Rattle.finer.specs.Rounded.{LooseFraction, LooseRoot}
+pub mod Sheets
+pub mod Lines
+pub mod Scaled
+pub mod AtPlaces
+pub mod AtTwenty
+
+-- 1 in units of 2 ^ -n and of 2 ^ -(n - 7), K being 2 ^ (n - 20)
+abbrev pub unit : ℕ → ℕ
+unit K = 1048576 * K
+
+abbrev pub coarse : ℕ → ℕ
+coarse K = 8192 * K
+
+-- what the sheet looks at of its two colours, in exact numbers: a² + b² of either, D², |ΔL|, L and line 6's M of the reference, whether the hue
+-- is the same and which form T has; and l and c as they count
+pub record Data : Type 0 where
+  pub formula : Formula
+  pub l : ℕ
+  pub c : ℕ
+  pub squareR : ℕ
+  pub squareT : ℕ
+  pub D² : ℕ
+  pub ΔL : ℕ
+  pub L : ℕ
+  pub M : ℕ
+  pub sameHue : Bool
+  pub second : Bool
+
+-- the sheet's quantities, as magnitudes; CR and CT are the chromas
+pub record Quantities : Type 0 where
+  pub CR : ℕ
+  pub CT : ℕ
+  pub ΔC : ℕ
+  pub ΔH : ℕ
+  pub SL : ℕ
+  pub SC : ℕ
+  pub SH : ℕ
+  pub Q : ℕ
+  pub W : ℕ
+  pub F : ℕ
+  pub T : ℕ
+  pub P : ℕ
+  pub G : ℕ
+  pub DL : ℕ
+  pub DC : ℕ
+  pub DH : ℕ
+  pub DE : ℕ
+
+-- ---- lines 3 to 7 under each formula
+
+-- T is (constant C + factor M) / (10 ^ 9 C): 0.36 + 0.4 M / C in the first form, 0.56 + 0.2 M / C in the second
+abbrev pub constant : (second : Bool) → ℕ
+constant false = 360000000
+constant true = 560000000
+
+abbrev pub factor : (second : Bool) → ℕ
+factor false = 4
+factor true = 2
+
+-- lines 5 to 7 of a reference that is not neutral
+pub record LooseHue (K N : ℕ) (d : Data) (s : Quantities) : Type 0 where
+  pub K≤C : K ≤ s .CR
+  pub Q : LooseFraction K (s .Q) (128 * N) (d .squareR)
+  pub W : LooseRoot K (s .W) (s .Q * s .Q + 1900 * (coarse K * coarse K))
+  pub Q≤W : s .Q ≤ s .W
+  pub 43≤W : 43 * coarse K ≤ s .W
+  pub F : LooseFraction K (s .F) (s .W) (s .Q * N)
+  pub F≤1 : s .F ≤ N
+  pub T : LooseFraction K (s .T) (1000000000 * s .CR) ((constant (d .second) * s .CR + factor (d .second) * d .M) * N)
+  pub T≤1 : s .T ≤ N
+  pub P : LooseFraction K (s .P) N (s .F * s .T)
+  pub G : s .G + s .F ≡ s .P + N
+  pub 1≤3G : N ≤ 3 * s .G
+  pub SH : LooseFraction K (s .SH) N (s .SC * s .G)
+
+pub record LooseCMC (K N : ℕ) (d : Data) (s : Quantities) : Type 0 where
+  pub dark : d .L < 16 * N → LooseFraction K (s .SL) 1000 (511 * N)
+  pub light : 16 * N ≤ d .L → LooseFraction K (s .SL) (1000000 * N + 17650 * d .L) (40975 * d .L * N)
+  pub SC : LooseFraction K (s .SC) ((10000 * N + 131 * s .CR) * 1000) ((638 * s .CR * 1000 + (10000 * N + 131 * s .CR) * 638) * N)
+  pub neutral : d .squareR ≡ 0 → s .SH ≡ s .SC
+  pub chromatic : 0 < d .squareR → LooseHue K N d s
+
+pub record LooseCIE94 (K N : ℕ) (s : Quantities) : Type 0 where
+  pub SL : s .SL ≡ N
+  pub SC : LooseFraction K (s .SC) 1000 (1000 * N + 45 * s .CR)
+  pub SH : LooseFraction K (s .SH) 1000 (1000 * N + 15 * s .CR)
+
+pub record LooseCIELAB (N : ℕ) (s : Quantities) : Type 0 where
+  pub SL : s .SL ≡ N
+  pub SC : s .SC ≡ N
+  pub SH : s .SH ≡ N
+
+abbrev pub LooseAxes : Formula → (K N : ℕ) (d : Data) (s : Quantities) → Type 0
+LooseAxes CIELAB K N d s = LooseCIELAB N s
+LooseAxes CIE94 K N d s = LooseCIE94 K N s
+LooseAxes CMC K N d s = LooseCMC K N d s
+
+-- ---- lines 2 and 8, with any semi-axes that are not small
+
+pub record LooseDifference (K N : ℕ) (d : Data) (s : Quantities) : Type 0 where
+  pub same : d .sameHue ≡ true → s .ΔH ≡ 0
+  pub ΔH : d .sameHue ≡ false → LooseRoot K (s .ΔH) (d .D² - s .ΔC * s .ΔC)
+  pub 1≤2SL : N ≤ 2 * s .SL
+  pub 1≤2SC : N ≤ 2 * s .SC
+  pub 1≤7SH : N ≤ 7 * s .SH
+  pub DL : LooseFraction K (s .DL) (d .l * s .SL) (1000 * N * d .ΔL)
+  pub DC : LooseFraction K (s .DC) (d .c * s .SC) (1000 * N * s .ΔC)
+  pub DH : LooseFraction K (s .DH) (s .SH) (N * s .ΔH)
+  pub DE : LooseRoot K (s .DE) (s .DL * s .DL + s .DC * s .DC + s .DH * s .DH)
+
+-- ---- the whole
+
+pub record Loose (K N : ℕ) (d : Data) (s : Quantities) : Type 0 where
+  pub CR : LooseRoot K (s .CR) (d .squareR)
+  pub CT : LooseRoot K (s .CT) (d .squareT)
+  pub ΔC : (s .ΔC + s .CR ≡ s .CT) ⊎ (s .ΔC + s .CT ≡ s .CR)
+  pub axes : LooseAxes (d .formula) K N d s
+  pub difference : LooseDifference K N d s

@@ -1,0 +1,25 @@
+-- A colour of the grid at 20 places is the colour itself. Assumes nothing.
+use mathlib.Core.Path.{_≡_, sym, ap, _∙_}
+use Prim.Native.Nat.{ℕ, suc}
+use native.Mathlib.Nat.{one-mul}
+use lib.IntN.{ℤ, pos, negsuc, negℤ}
+use Rattle.rounding.specs.Signed.{∣_∣, _·_}
+use Rattle.colour.specs.declared.conversion.GridColour.{GridColour}
+use Rattle.colour.specs.Conversion.{Lab, atPlaces}
+
+one-times : (z : ℤ) → 1 · z ≡ z
+one-times (pos m) = ap pos (one-mul m)
+one-times (negsuc m) = ap (λ (k : ℕ). negℤ (pos k)) (one-mul (suc m))
+
+-- its numbers of units
+abbrev pub units : GridColour → Lab
+units c = record { L = ∣ c .L .0 ∣; a = c .a .0; b = c .b .0 }
+
+pub atPlaces-20 : (c : GridColour) → atPlaces 20 c ≡ units c
+unfolding atPlaces
+atPlaces-20 c = λ i. record { L = one-mul ∣ c .L .0 ∣ i; a = one-times (c .a .0) i; b = one-times (c .b .0) i }
+
+-- the colour of these numbers of units
+pub atPlaces-of-units :
+    (c : GridColour) {l : ℕ} {a b : ℤ} → l ≡ ∣ c .L .0 ∣ → a ≡ c .a .0 → b ≡ c .b .0 → _≡_ {A = Lab} (record { L = l; a = a; b = b }) (atPlaces 20 c)
+atPlaces-of-units c hl ha hb = (λ i. record { L = hl i; a = ha i; b = hb i }) ∙ sym (atPlaces-20 c)

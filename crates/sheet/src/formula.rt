@@ -1,0 +1,7 @@
+// The three formulas.
+
+pub enum Formula {
+    CIELAB,
+    CIE94,
+    CMC,
+}
