@@ -422,7 +422,8 @@ fn cmc_sc(n: u32, reference: Colour) -> i128 {
 fn cmc_f(n: u32, [_, a, b]: Colour) -> i128 {
     let (a, b) = (at(n, a), at(n, b));
     let coarse = one(n - 7);
-    let q = down((a * a + b * b) * coarse, one(2 * n));
+    // a and b are in units of 2^-n, so a² + b² is in units of 2^-2n
+    let q = down(a * a + b * b, one(2 * n) / coarse);
     let w = root(q * q + 1900 * coarse * coarse);
     down(q * one(n), w)
 }
