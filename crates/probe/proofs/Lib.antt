@@ -1,2 +1,4 @@
 -- What the proofs of the functions share.
 pub mod Laws
+pub mod Refusals
+pub mod RowLaws
