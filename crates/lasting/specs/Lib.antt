@@ -1,0 +1,2 @@
+-- What `lasting` proves.
+pub mod Lasting

@@ -1,0 +1,38 @@
+-- The whole ones and the rest, each in ten-thousandths rounded down, are together the number so rounded. Assumes nothing.
+use mathlib.Core.Path.{_≡_, sym, ap, ap₂, _∙_}
+use mathlib.Core.Bool.{Bool, _&&_}
+use mathlib.Core.Logic.{⊎-elim}
+use Prim.Native.Nat.{ℕ, _+_, _*_, _/_, _%_, _^_}
+use native.Mathlib.Omega.{arith}
+use borrow.Author.Needs.{needs}
+use lib.Dec.{ltb}
+use Rattle.text.specs.Decimal.{shown}
+use Rattle.text.specs.declared.decimal.Shown.{Shown}
+use Rattle.lines.specs.Lines.{figure}
+use Rattle.lines.proofs.numbers.figure_of.Statement.{statement}
+use Rattle.lines.proofs.numbers.figure_of.Tie as tie
+
+abbrev ten-thousandths : ℕ → ℕ
+ten-thousandths m = m / 1048576 * 10000 + m % 1048576 * 10000 / 1048576
+
+shown-is : (m : ℕ) → ten-thousandths m ≡ shown 4 (2 ^ 20) m
+unfolding shown
+shown-is m = omega arith
+
+figure-is :
+    (below : Bool) (m : ℕ) {minus : Bool} → minus ≡ (below && ltb 0 (ten-thousandths m)) →
+    _≡_ {A = Shown} (record { places = 4; minus = minus; whole = ten-thousandths m / 10000; units = ten-thousandths m }) (figure below m)
+figure-is below m e =
+    ap₂
+    (λ (b : Bool) (s : ℕ). record { places = 4; minus = b; whole = s / 10000; units = s })
+    (e ∙ ap (λ (s : ℕ). below && ltb 0 s) (shown-is m))
+    (shown-is m)
+
+returns : tie.Need-returns
+returns c =
+    let a = c .before .args in
+    let shows : Bool → Bool = λ b. b && ltb 0 (ten-thousandths (a .m)) in
+    figure-is (a .below) (a .m) (⊎-elim (λ w. w .1 ∙ sym (ap shows (w .0 .taken))) (λ w. w .1 ∙ sym (ap shows (w .0 .left))) (c .if1 .came))
+
+pub figure-of-spec : {M : Type 1} → statement M
+figure-of-spec = tie.close (tie.spec (λ c. search needs) (λ c. search needs) (λ c. search needs) returns)

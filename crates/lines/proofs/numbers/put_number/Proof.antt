@@ -1,0 +1,43 @@
+-- The key, the decimal and the line's end are put one after the other. Assumes nothing.
+use borrow.Author.Needs.{needs}
+use Rattle.text.specs.Put.Laws.{room-for-all, room-first, room-second, room-third, puts-three, puts-joined}
+use Rattle.lines.specs.Lines.{numberPieces, numberLine}
+use Rattle.lines.proofs.numbers.put_number.Statement.{statement}
+use Rattle.lines.proofs.numbers.put_number.Tie as tie
+
+put-requires : tie.Need-put-requires
+unfolding numberLine
+put-requires c κs =
+    let start = c .before .before .before in
+    room-first (room-for-all (numberPieces (start .args .key .now) (start .args .d)) (start .pre))
+
+put-decimal-requires : tie.Need-put-decimal-requires
+unfolding numberLine
+put-decimal-requires c κs =
+    let key = c .before .before .before in
+    let start = key .before .before .before .before in
+    room-second (room-for-all (numberPieces (start .args .key .now) (start .args .d)) (start .pre)) (key .put .ensures)
+
+put-requires-2 : tie.Need-put-requires-2
+unfolding numberLine
+put-requires-2 c κs =
+    let number = c .before .before .before .before in
+    let key = number .before .before .before .before in
+    let start = key .before .before .before .before in
+    let row = room-for-all (numberPieces (start .args .key .now) (start .args .d)) (start .pre) in
+    room-third row (key .put .ensures) (number .put-decimal .ensures)
+
+returns : tie.Need-returns
+unfolding numberLine
+returns c =
+    let end = c .before .before in
+    let number = end .before .before .before .before .before in
+    let key = number .before .before .before .before in
+    let start = key .before .before .before .before in
+    let row = room-for-all (numberPieces (start .args .key .now) (start .args .d)) (start .pre) in
+    puts-joined (puts-three row (key .put .ensures) (number .put-decimal .ensures) (end .put2 .ensures))
+
+pub put-number-spec : {M : Type 1} → statement M
+put-number-spec =
+    tie.close
+    (tie.spec put-requires put-decimal-requires (λ c. search needs) put-requires-2 (λ c. search needs) returns)

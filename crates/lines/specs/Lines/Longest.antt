@@ -1,0 +1,105 @@
+-- The longest that each line can be: with k digits before the point, and a difference together with its name, of which one is short where the
+-- other is long. Assumes nothing.
+use mathlib.Core.Path.{_≡_, refl, sym, _∙_}
+use mathlib.Core.Bool.{Bool, true, false}
+use mathlib.Core.Logic.{_⊎_, inl, inr, ⊎-elim}
+use Prim.Native.Nat.{ℕ, _+_, _*_, _^_, _≤_, _<_}
+use native.Mathlib.Omega.{arith}
+use lib.IntN.{ℤ}
+use lib.ListN.{length}
+use Rattle.rounding.specs.Signed.{∣_∣, minus}
+use Rattle.colour.specs.declared.white.White.{White}
+use Rattle.colour.specs.declared.white.White.the-variants.{D65Ten, D65Two, CTen, CTwo}
+use Rattle.names.specs.declared.Lightness.{Lightness}
+use Rattle.names.specs.declared.Lightness.the-variants as L
+use Rattle.names.specs.declared.Chroma.{Chroma}
+use Rattle.names.specs.declared.Chroma.the-variants as C
+use Rattle.names.specs.declared.Axis.{Axis}
+use Rattle.names.specs.declared.Axis.the-variants.{Redder, Yellower, Greener, Bluer}
+use Rattle.names.specs.declared.Hue.{Hue}
+use Rattle.names.specs.declared.Hue.the-variants as H
+use Rattle.text.specs.Decimal.{shown, minusSign, decimalText}
+use Rattle.text.specs.Decimal.Laws.{width-le, decimal-length}
+use Rattle.lines.specs.Lines.{whiteLine, lightnessLine, chromaLine, axisName, hueLine, thousandths, figure, signedFigure}
+use Rattle.lines.specs.Lines.Laws.{axes-length}
+
+-- m units are below so many ones
+abbrev pub Under : (ones m : ℕ) → Type 0
+Under ones m = m < ones * 2 ^ 20
+
+-- ---- numbers
+
+minus-sign-le : (b : Bool) → length (minusSign b) ≤ 1
+minus-sign-le true = omega arith
+minus-sign-le false = omega arith
+
+-- the whole ones that are shown
+thousandths-whole-lt : (ones m : ℕ) → m < ones * 1000 → thousandths m .whole < ones
+unfolding shown
+thousandths-whole-lt ones m h = omega arith
+
+figure-whole-lt : (ones : ℕ) (below : Bool) (m : ℕ) → Under ones m → figure below m .whole < ones
+unfolding shown
+figure-whole-lt ones below m h = omega arith
+
+-- with k digits before the point
+module _ (k : ℕ) (some : 0 < k) where
+  pub thousandths-length-le : (m : ℕ) → m < 10 ^ k * 1000 → length (decimalText (thousandths m)) ≤ k + 4
+  thousandths-length-le m h =
+      omega (arith, decimal-length (thousandths m), width-le k (thousandths m .whole) some (thousandths-whole-lt (10 ^ k) m h))
+
+  pub figure-length-le : (below : Bool) (m : ℕ) → Under (10 ^ k) m → length (decimalText (figure below m)) ≤ k + 6
+  figure-length-le below m h =
+      let digits = width-le k (figure below m .whole) some (figure-whole-lt (10 ^ k) below m h) in
+      omega (arith, decimal-length (figure below m), minus-sign-le (figure below m .minus))
+
+  pub plain-length-le : (below : Bool) (m : ℕ) → below ≡ false → Under (10 ^ k) m → length (decimalText (figure below m)) ≤ k + 5
+  plain-length-le below m e h =
+      let digits = width-le k (figure below m .whole) some (figure-whole-lt (10 ^ k) below m h) in
+      let none : length (minusSign (figure below m .minus)) ≡ 0 = rw e in
+      omega (arith, decimal-length (figure below m))
+
+  -- ---- a difference with its name
+
+  pub lightness-and-DL-le :
+      (x : Lightness) (z : ℤ) → (x ≡ L.Lighter → minus z ≡ false) → Under (10 ^ k) ∣ z ∣ →
+      length (lightnessLine x) + length (decimalText (signedFigure z)) ≤ k + 23
+  lightness-and-DL-le L.Lighter z up h = omega (arith, plain-length-le (minus z) ∣ z ∣ (up refl) h)
+  lightness-and-DL-le L.Darker z up h = omega (arith, figure-length-le (minus z) ∣ z ∣ h)
+  lightness-and-DL-le L.Equal z up h = omega (arith, figure-length-le (minus z) ∣ z ∣ h)
+
+  pub chroma-and-DC-le :
+      (x : Chroma) (z : ℤ) → (x ≡ C.Equal → minus z ≡ false) → Under (10 ^ k) ∣ z ∣ →
+      length (chromaLine false x) + length (decimalText (signedFigure z)) ≤ k + 18
+  chroma-and-DC-le C.More z same h = omega (arith, figure-length-le (minus z) ∣ z ∣ h)
+  chroma-and-DC-le C.Less z same h = omega (arith, figure-length-le (minus z) ∣ z ∣ h)
+  chroma-and-DC-le C.Equal z same h = omega (arith, plain-length-le (minus z) ∣ z ∣ (same refl) h)
+
+-- ---- names
+
+pub white-length-le : (w : White) → length (whiteLine w) ≤ 13
+white-length-le D65Ten = omega arith
+white-length-le D65Two = omega arith
+white-length-le CTen = omega arith
+white-length-le CTwo = omega arith
+
+-- only yellower has eight bytes, and it is not its own bracket
+seven-or-yellower : (x : Axis) → (length (axisName x) ≤ 7) ⊎ (x ≡ Yellower)
+seven-or-yellower Redder = inl (omega arith)
+seven-or-yellower Yellower = inr refl
+seven-or-yellower Greener = inl (omega arith)
+seven-or-yellower Bluer = inl (omega arith)
+
+axis-length-le : (x : Axis) → length (axisName x) ≤ 8
+axis-length-le x = ⊎-elim (λ h. omega arith) (λ e. rw e (omega arith)) (seven-or-yellower x)
+
+axes-le : (name bracket : Axis) → (name ≡ bracket → ⊥) → length (axisName name) + length (axisName bracket) ≤ 15
+axes-le name bracket differ =
+    ⊎-elim
+    (λ h. omega (arith, axis-length-le bracket))
+    (λ e. ⊎-elim (λ h. omega (arith, axis-length-le name)) (λ f. absurd (differ (e ∙ sym f))) (seven-or-yellower bracket))
+    (seven-or-yellower name)
+
+pub hue-length-le : (x : Hue) → ((name bracket : Axis) → x ≡ H.Towards name bracket → name ≡ bracket → ⊥) → length (hueLine false x) ≤ 22
+hue-length-le H.Equal differ = omega arith
+hue-length-le (H.Towards name bracket) differ = omega (arith, axes-length name bracket, axes-le name bracket (differ name bracket refl))

@@ -1,0 +1,86 @@
+-- Two reports, whole, by computation: the case that 01 prints, and one with brackets and minus signs. Assumes nothing.
+use mathlib.Core.Path.{_≡_, refl}
+use mathlib.Core.Bool.{true, false}
+use mathlib.Core.List.{[], _∷_}
+use lib.IntN.{pos, negsuc}
+use Rattle.colour.specs.declared.white.White.the-variants.{D65Ten, CTwo}
+use Rattle.sheet.specs.declared.formula.Formula.the-variants.{CIELAB, CMC}
+use Rattle.sheet.specs.declared.verdict.Verdict.the-variants.{Near, Pass}
+use Rattle.names.specs.declared.Lightness.the-variants as L
+use Rattle.names.specs.declared.Chroma.the-variants as C
+use Rattle.names.specs.declared.Axis.the-variants.{Redder, Yellower}
+use Rattle.names.specs.declared.Hue.the-variants as H
+use Rattle.text.specs.Ascii.{ascii}
+use Rattle.text.specs.Put.{joined}
+use Rattle.text.specs.Decimal.{shown, lastDigits, widthIn, decimalText}
+use Rattle.report.specs.declared.report.Report.{Report}
+use Rattle.lines.specs.Lines.{numberLine, chromaticLine}
+use Rattle.report.specs.Report.{settingLines, figureLines, wordLines, reportText}
+
+-- 50 0 0 to 51 0 0 under CMC
+pub wholeCase : Report
+wholeCase = record {
+  formula = CMC;
+  white = D65Ten;
+  l = 1000;
+  c = 1000;
+  differences = record { DL = pos 963487; DC = pos 0; DH = pos 0; DE = 963487 };
+  lightness = L.Lighter;
+  chroma = C.Equal;
+  hue = H.Equal;
+  verdict = Pass;
+  withheld = true;
+}
+
+-- DL = -1.5, DC = -0.00004.. which shows no digit but zeros, DH = -0.0001..
+pub otherCase : Report
+otherCase = record {
+  formula = CIELAB;
+  white = CTwo;
+  l = 500;
+  c = 10000;
+  differences = record { DL = negsuc 1572863; DC = negsuc 41; DH = negsuc 104; DE = 1572864 };
+  lightness = L.Darker;
+  chroma = C.Less;
+  hue = H.Towards Yellower Redder;
+  verdict = Near;
+  withheld = false;
+}
+
+pub record ReportCases : Type 0 where
+  pub whole :
+      reportText wholeCase
+      ≡ joined
+      (ascii "formula=CMC\n"
+      ∷ ascii "white=D65/10\n"
+      ∷ ascii "l=1.000\n"
+      ∷ ascii "c=1.000\n"
+      ∷ ascii "DE=0.9188\n"
+      ∷ ascii "DL=0.9188\n"
+      ∷ ascii "DC=withheld\n"
+      ∷ ascii "DH=withheld\n"
+      ∷ ascii "lightness=lighter\n"
+      ∷ ascii "chroma=withheld\n"
+      ∷ ascii "hue=withheld\n"
+      ∷ ascii "verdict=pass\n"
+      ∷ [])
+  pub other :
+      reportText otherCase
+      ≡ joined
+      (ascii "formula=CIELAB\n"
+      ∷ ascii "white=C/2\n"
+      ∷ ascii "l=0.500\n"
+      ∷ ascii "c=10.000\n"
+      ∷ ascii "DE=1.5000\n"
+      ∷ ascii "DL=-1.5000\n"
+      ∷ ascii "DC=0.0000\n"
+      ∷ ascii "DH=-0.0001\n"
+      ∷ ascii "lightness=darker\n"
+      ∷ ascii "chroma=less\n"
+      ∷ ascii "hue=yellower(redder)\n"
+      ∷ ascii "verdict=near\n"
+      ∷ [])
+
+pub report-cases : ReportCases
+unfolding wholeCase otherCase reportText settingLines figureLines wordLines numberLine chromaticLine decimalText shown widthIn lastDigits
+report-cases = record { whole = refl; other = refl }

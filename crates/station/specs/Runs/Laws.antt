@@ -1,0 +1,72 @@
+-- THE THEOREM ON RUNS, on slices: after any calls the station's slice is that of one that was freshly started and given the last accepted load
+-- alone, or zeros if none was accepted; and it holds what the station as a value is. Assumes nothing.
+use mathlib.Core.Path.{_≡_, refl, sym, ap, _∙_}
+use mathlib.Core.List.{List, [], _∷_}
+use mathlib.Core.Option.{Option, none, some}
+use Prim.Native.Nat.{ℕ}
+use borrow.Author.Tests.{eq-eqb}
+use lib.ListN.{length}
+use Rattle.standard.specs.declared.held.Standard.{Standard}
+use Rattle.standard.specs.declared.held.Station.the-variants.{Empty}
+use Rattle.standard.specs.declared.load.Load.{Load}
+use Rattle.standard.specs.declared.load.Acceptance.{Acceptance}
+use Rattle.standard.specs.declared.load.Acceptance.the-variants.{Refused, Taken}
+use Rattle.standard.specs.Station.{acceptance, loaded, loadAnswer}
+use Rattle.standard.specs.Station.Laws.{taken-valid}
+use Rattle.standard.specs.Runs.{Call, load, judge, ticket, later, lastFrom, lastAccepted, stationAfter, freshStation}
+use Rattle.standard.specs.Runs.Laws.{run-station}
+use Rattle.stored.specs.Record.{encode, decode, zeros}
+use Rattle.stored.specs.Record.Laws.{stores}
+use Rattle.stored.specs.Record.Back.{length-encode, decode-encode, zeros-empty, length-zeros}
+use Rattle.station.specs.Calls.{loadCall}
+use Rattle.station.specs.Calls.Laws.{load-call-refused, load-call-stored}
+use Rattle.station.specs.Runs.{sliceAfter, freshSlice}
+
+-- what a load leaves of 20 bytes
+load-bytes : (xs : List ℕ) → length xs ≡ 20 → (x : Load) {s : Standard} → acceptance x ≡ Taken s → loadCall xs x .bytes ≡ encode s
+load-bytes xs n x {s} e =
+    sym (load-call-stored xs x refl e (sym (eq-eqb (length xs) 20 n)) (stores s xs n) refl .bytes)
+
+refused-bytes : (xs : List ℕ) (x : Load) {n : ℕ} → acceptance x ≡ Refused n → loadCall xs x .bytes ≡ xs
+refused-bytes xs x e = sym (load-call-refused xs x refl e .bytes)
+
+fresh-length : (o : Option Load) → length (freshSlice o) ≡ 20
+unfolding freshSlice
+fresh-length none = length-zeros
+fresh-length (some x) = go (acceptance x) refl
+  where
+    go : (a : Acceptance) → acceptance x ≡ a → length (loadCall zeros x .bytes) ≡ 20
+    go (Refused n) e = ap length (refused-bytes zeros x e) ∙ length-zeros
+    go (Taken s) e = ap length (load-bytes zeros length-zeros x e) ∙ length-encode s
+
+slice-step : (o : Option Load) (x : Load) (a : Acceptance) → acceptance x ≡ a → loadCall (freshSlice o) x .bytes ≡ freshSlice (later a x o)
+unfolding freshSlice
+slice-step o x (Refused n) e = refused-bytes (freshSlice o) x e
+slice-step o x (Taken s) e = load-bytes (freshSlice o) (fresh-length o) x e ∙ sym (load-bytes zeros length-zeros x e)
+
+slice-from : (o : Option Load) (cs : List Call) → sliceAfter (freshSlice o) cs ≡ freshSlice (lastFrom o cs)
+unfolding sliceAfter lastFrom
+slice-from o [] = refl
+slice-from o (load x ∷ cs) =
+    ap (λ (xs : List ℕ). sliceAfter xs cs) (slice-step o x (acceptance x) refl) ∙ slice-from (later (acceptance x) x o) cs
+slice-from o (judge r room column ∷ cs) = slice-from o cs
+slice-from o (ticket text room column ∷ cs) = slice-from o cs
+
+pub run-slice : (cs : List Call) → sliceAfter zeros cs ≡ freshSlice (lastAccepted cs)
+unfolding freshSlice
+run-slice cs = slice-from none cs
+
+-- ---- the slice holds what the value is
+
+fresh-holds : (o : Option Load) → decode (freshSlice o) ≡ freshStation o
+unfolding freshSlice freshStation loadAnswer
+fresh-holds none = zeros-empty
+fresh-holds (some x) = go (acceptance x) refl
+  where
+    go : (a : Acceptance) → acceptance x ≡ a → decode (loadCall zeros x .bytes) ≡ loaded Empty (acceptance x) .station
+    go (Refused n) e = ap decode (refused-bytes zeros x e) ∙ zeros-empty ∙ ap (λ (b : Acceptance). loaded Empty b .station) (sym e)
+    go (Taken s) e =
+        ap decode (load-bytes zeros length-zeros x e) ∙ decode-encode s (taken-valid x e) ∙ ap (λ (b : Acceptance). loaded Empty b .station) (sym e)
+
+pub slice-holds : (cs : List Call) → decode (sliceAfter zeros cs) ≡ stationAfter Empty cs
+slice-holds cs = ap decode (run-slice cs) ∙ fresh-holds (lastAccepted cs) ∙ sym (run-station cs)

@@ -1,0 +1,2 @@
+// The station's calls on slices that the host lends.
+pub mod calls;

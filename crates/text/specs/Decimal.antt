@@ -1,0 +1,55 @@
+-- 01-scope.md, "Numbers": a number as a decimal. `Decimal/Laws.antt` has what callers go by; `Decimal/Value.antt` reads the digits back, and
+-- `Decimal/Cases.antt` has some figures. Assumes nothing.
+use mathlib.Core.Bool.{Bool, cond, _&&_}
+use mathlib.Core.List.{List, [], _∷_}
+use Prim.Native.Nat.{ℕ, zero, suc, _+_, _*_, _/_, _%_, _^_}
+use lib.Dec.{ltb}
+use Rattle.text.specs.Ascii.{ascii}
+use Rattle.text.specs.Put.{joined}
+use Rattle.text.specs.declared.decimal.Shown.{Shown}
+pub mod Laws
+pub mod Value
+pub mod Cases
+
+-- m units, of which perOne make one, counted in units of 10 ^ -places: rounded down. Every number that is printed is rounded here.
+unfoldable pub shown : (places perOne m : ℕ) → ℕ
+shown places perOne m = m * 10 ^ places / perOne
+
+-- ---- digits
+
+-- the last k digits of n, the first of them at 10 ^ (k - 1)
+unfoldable pub lastDigits : (k n : ℕ) → List ℕ
+lastDigits zero n = []
+lastDigits (suc k) n = (48 + n / 10 ^ k % 10) ∷ lastDigits k n
+
+-- how many digits n has without leading zeros, but at least one, counted in k turns at most
+unfoldable pub widthIn : (k n : ℕ) → ℕ
+widthIn zero n = 1
+widthIn (suc k) n = cond (ltb n 10) 1 (widthIn k (n / 10) + 1)
+
+-- twenty turns are enough below 10 ^ 20, and so below 2 ^ 64
+abbrev pub width : ℕ → ℕ
+width n = widthIn 20 n
+
+-- ---- a decimal
+
+-- a minus, if one is to be shown
+abbrev pub minusSign : Bool → List ℕ
+minusSign shows = cond shows (ascii "-") []
+
+-- the sign, the whole ones without leading zeros, a point, the places
+abbrev pub decimalPieces : Shown → List (List ℕ)
+decimalPieces d = minusSign (d .minus) ∷ lastDigits (width (d .whole)) (d .whole) ∷ ascii "." ∷ lastDigits (d .places) (d .units) ∷ []
+
+unfoldable pub decimalText : Shown → List ℕ
+decimalText d = joined (decimalPieces d)
+
+-- m units, of which perOne make one, as they are shown with so many places: a minus only if a digit that is not zero is shown
+abbrev pub shownAs : (places perOne : ℕ) (below : Bool) (m : ℕ) → Shown
+shownAs places perOne below m =
+    let s : ℕ = shown places perOne m in
+    record { places = places; minus = below && ltb 0 s; whole = s / 10 ^ places; units = s }
+
+-- and their text
+abbrev pub decimal : (places perOne : ℕ) (below : Bool) (m : ℕ) → List ℕ
+decimal places perOne below m = decimalText (shownAs places perOne below m)

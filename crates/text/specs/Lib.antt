@@ -1,0 +1,7 @@
+-- What the contracts of `text` cite, and the laws that callers go by.
+-- a text as bytes
+pub mod Ascii
+-- texts put one after the other into a list of bytes
+pub mod Put
+-- numbers as decimals
+pub mod Decimal
