@@ -41,7 +41,10 @@ module _ (u v w : Units) where
   unfolding taken
   taken-not-finite h = rw h
 
-  pub taken-out-of-range : (isNotFinite u || isNotFinite v || isNotFinite w) ≡ false → (isOutOfRange u || isOutOfRange v || isOutOfRange w) ≡ true → taken u v w ≡ T.OutOfRange
+  pub taken-out-of-range :
+      (isNotFinite u || isNotFinite v || isNotFinite w) ≡ false →
+      (isOutOfRange u || isOutOfRange v || isOutOfRange w) ≡ true →
+      taken u v w ≡ T.OutOfRange
   unfolding taken
   taken-out-of-range h g = rw (h, g)
 

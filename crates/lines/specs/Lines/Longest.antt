@@ -18,8 +18,8 @@ use Rattle.names.specs.declared.Axis.{Axis}
 use Rattle.names.specs.declared.Axis.the-variants.{Redder, Yellower, Greener, Bluer}
 use Rattle.names.specs.declared.Hue.{Hue}
 use Rattle.names.specs.declared.Hue.the-variants as H
-use Rattle.text.specs.Decimal.{shown, minusSign, decimalText}
-use Rattle.text.specs.Decimal.Laws.{width-le, decimal-length}
+use Rattle.text.specs.Decimal.{minusSign, decimalText}
+use Rattle.text.specs.Decimal.Laws.{shown-whole-lt, width-le, decimal-length}
 use Rattle.lines.specs.Lines.{whiteLine, lightnessLine, chromaLine, axisName, hueLine, thousandths, figure, signedFigure}
 use Rattle.lines.specs.Lines.Laws.{axes-length}
 
@@ -33,29 +33,20 @@ minus-sign-le : (b : Bool) → length (minusSign b) ≤ 1
 minus-sign-le true = omega arith
 minus-sign-le false = omega arith
 
--- the whole ones that are shown
-thousandths-whole-lt : (ones m : ℕ) → m < ones * 1000 → thousandths m .whole < ones
-unfolding shown
-thousandths-whole-lt ones m h = omega arith
-
-figure-whole-lt : (ones : ℕ) (below : Bool) (m : ℕ) → Under ones m → figure below m .whole < ones
-unfolding shown
-figure-whole-lt ones below m h = omega arith
-
 -- with k digits before the point
 module _ (k : ℕ) (some : 0 < k) where
   pub thousandths-length-le : (m : ℕ) → m < 10 ^ k * 1000 → length (decimalText (thousandths m)) ≤ k + 4
   thousandths-length-le m h =
-      omega (arith, decimal-length (thousandths m), width-le k (thousandths m .whole) some (thousandths-whole-lt (10 ^ k) m h))
+      omega (arith, decimal-length (thousandths m), width-le k (thousandths m .whole) some (shown-whole-lt 3 1000 (10 ^ k) m (omega arith) h))
 
   pub figure-length-le : (below : Bool) (m : ℕ) → Under (10 ^ k) m → length (decimalText (figure below m)) ≤ k + 6
   figure-length-le below m h =
-      let digits = width-le k (figure below m .whole) some (figure-whole-lt (10 ^ k) below m h) in
+      let digits = width-le k (figure below m .whole) some (shown-whole-lt 4 (2 ^ 20) (10 ^ k) m (omega arith) h) in
       omega (arith, decimal-length (figure below m), minus-sign-le (figure below m .minus))
 
   pub plain-length-le : (below : Bool) (m : ℕ) → below ≡ false → Under (10 ^ k) m → length (decimalText (figure below m)) ≤ k + 5
   plain-length-le below m e h =
-      let digits = width-le k (figure below m .whole) some (figure-whole-lt (10 ^ k) below m h) in
+      let digits = width-le k (figure below m .whole) some (shown-whole-lt 4 (2 ^ 20) (10 ^ k) m (omega arith) h) in
       let none : length (minusSign (figure below m .minus)) ≡ 0 = rw e in
       omega (arith, decimal-length (figure below m))
 

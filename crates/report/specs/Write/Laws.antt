@@ -5,6 +5,7 @@ use Prim.Native.Nat.{ℕ, _+_, _≤_, _<_}
 use borrow.Author.Tests.{le-leb, lt-leb}
 use lib.ListN.{length, take, drop}
 use Rattle.text.specs.Put.{putAt}
+use Rattle.text.specs.Put.Laws.{put-spelled}
 use Rattle.report.specs.declared.report.Report.{Report}
 use Rattle.report.specs.Report.{reportText}
 use Rattle.report.specs.Write.{hasRoom, writeNumber, writeRoom, Written}
@@ -24,8 +25,7 @@ module _ (room : List ℕ) (column : ℕ) (r : Report) where
   pub write-room-spelled :
       column + length (reportText r) ≤ length room →
       writeRoom room column r ≡ take column room ++ reportText r ++ drop (column + length (reportText r)) room
-  unfolding putAt
-  write-room-spelled h = write-room-put h
+  write-room-spelled h = write-room-put h ∙ put-spelled room column (reportText r)
 
   -- ---- with too little
 

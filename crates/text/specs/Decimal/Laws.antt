@@ -1,15 +1,41 @@
 -- What callers use of decimals: their digits from the last one back, and their lengths. Assumes nothing.
 use mathlib.Core.Path.{_≡_, refl, sym, ap, _∙_}
 use mathlib.Core.List.{[], _∷_}
-use Prim.Native.Nat.{ℕ, zero, suc, _+_, _-_, _/_, _%_, _^_, _≤_, _<_}
+use Prim.Native.Nat.{ℕ, zero, suc, _+_, _-_, _*_, _/_, _%_, _^_, _≤_, _<_}
 use native.Mathlib.Numerals.{add-one}
 use mathlib.Core.Logic.{_⊎_, inl, inr, ⊎-elim}
-use native.Mathlib.Nat.{eq-zero-or-pos, div-div-eq-div-mul, div-lt-iff-lt-mul, pow-suc, pow-zero}
+use native.Mathlib.Nat.{eq-zero-or-pos, one-le-pow, pow-suc, pow-zero, mul-lt-mul-of-pos-right}
+use native.Mathlib.Nat.{mul-div-left, mul-add-div-right, div-add-mod', div-div-eq-div-mul, div-lt-iff-lt-mul}
 use native.Mathlib.Omega.{arith}
 use borrow.Author.Tests.{lt-ltb, le-ltb}
 use lib.ListN.{length, length-append}
-use Rattle.text.specs.Decimal.{lastDigits, widthIn, width, minusSign, decimalText}
+use Rattle.text.specs.Decimal.{shown, lastDigits, widthIn, width, minusSign, decimalText}
 use Rattle.text.specs.declared.decimal.Shown.{Shown}
+
+-- ---- what is shown
+
+-- units of 10 ^ -places are shown as many as they are
+pub shown-same : (places m : ℕ) → shown places (10 ^ places) m ≡ m
+unfolding shown
+shown-same places m = mul-div-left m (one-le-pow places 10 (omega arith))
+
+-- the whole ones and the rest, each by itself, so that no product is large
+pub shown-split : (places perOne m : ℕ) → 0 < perOne → shown places perOne m ≡ m / perOne * 10 ^ places + m % perOne * 10 ^ places / perOne
+unfolding shown
+shown-split places perOne m h =
+    let ten : ℕ = 10 ^ places in
+    let split : m * ten ≡ m / perOne * ten * perOne + m % perOne * ten =
+    ap (λ (x : ℕ). x * ten) (sym (div-add-mod' m perOne)) ∙ omega arith in
+    rw split (mul-add-div-right h (m / perOne * ten) (m % perOne * ten))
+
+-- below so many ones, fewer than these are shown
+pub shown-whole-lt : (places perOne ones m : ℕ) → 0 < perOne → m < ones * perOne → shown places perOne m / 10 ^ places < ones
+unfolding shown
+shown-whole-lt places perOne ones m h f =
+    let ten : ℕ = 10 ^ places in
+    let some : 0 < ten = one-le-pow places 10 (omega arith) in
+    let scaled : m * ten < ones * ten * perOne = omega (arith, mul-lt-mul-of-pos-right f some) in
+    div-lt-iff-lt-mul {k = ten} {x = m * ten / perOne} {y = ones} some .1 (div-lt-iff-lt-mul {k = perOne} {x = m * ten} {y = ones * ten} h .1 scaled)
 
 -- ---- digits
 

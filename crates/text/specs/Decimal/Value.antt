@@ -1,10 +1,10 @@
 -- What the digits say: read back they are the number, and no zero leads. No proof cites this. Assumes nothing.
-use mathlib.Core.Path.{_≡_, sym, ap, _∙_}
+use mathlib.Core.Path.{_≡_, sym, _∙_}
 use mathlib.Core.List.{List, [], _∷_}
 use mathlib.Core.Logic.{⊎-elim}
 use Prim.Native.Nat.{ℕ, zero, suc, _+_, _-_, _*_, _/_, _%_, _^_, _≤_, _<_}
 use native.Mathlib.Numerals.{add-one}
-use native.Mathlib.Nat.{pow-zero, pow-suc, pow-succ', one-le-pow, mod-one, mod-eq-of-lt}
+use native.Mathlib.Nat.{pow-suc, pow-succ', one-le-pow, mod-one, mod-eq-of-lt}
 use native.Mathlib.Omega.{arith}
 use lib.Arith.{mod-mul}
 use lib.ListN.{length}

@@ -1,6 +1,6 @@
 -- Puts in a row are one put. A row of texts is written as a list of them, so that each step of a writer takes the first of what is left.
 -- Assumes nothing.
-use mathlib.Core.Path.{_≡_, sym, ap, _∙_, subst}
+use mathlib.Core.Path.{_≡_, refl, sym, ap, _∙_, subst}
 use mathlib.Core.List.{List, [], _∷_, _++_, append-assoc, append-nil}
 use Prim.Native.Nat.{ℕ, suc, _+_, _-_, _≤_}
 use native.Mathlib.Omega.{arith}
@@ -11,6 +11,11 @@ use lib.Seq.{paste, take-all, take-length, take-at, drop-drop, drop-append-add, 
 use Rattle.text.specs.Put.{putAt, Room, Puts, joined}
 
 -- ---- one put
+
+-- what stood before, s, what stood after
+pub put-spelled : (xs : List ℕ) (at : ℕ) (s : List ℕ) → putAt xs at s ≡ take at xs ++ s ++ drop (at + length s) xs
+unfolding putAt
+put-spelled xs at s = refl
 
 pub put-length : (xs : List ℕ) (at : ℕ) (s : List ℕ) → at + length s ≤ length xs → length (putAt xs at s) ≡ length xs
 unfolding putAt
@@ -47,7 +52,8 @@ put-before xs at s b h =
     let same-rest : at + 1 + length s ≡ at + suc (length s) = omega arith in
     let split : take (at + 1) xs ≡ take at xs ++ (getD xs at 0 ∷ []) = rw (add-one at) (take-suc xs at 0 (omega arith)) in
     let regroup : take (at + 1) xs ++ s ++ rest ≡ take at xs ++ getD xs at 0 ∷ (s ++ rest) = rw split (simp append-assoc) in
-    rw (← same-rest, regroup, set-at (take at xs) (getD xs at 0) (s ++ rest) b at (length-take-le at xs (omega arith))) (sym (append-assoc (take at xs) (b ∷ s) rest))
+    let stored = set-at (take at xs) (getD xs at 0) (s ++ rest) b at (length-take-le at xs (omega arith)) in
+    rw (← same-rest, regroup, stored) (sym (append-assoc (take at xs) (b ∷ s) rest))
 
 -- The part of xs from index at to the end, lent and given back with s at its start: s stands in xs from index at on.
 pub part-put : (xs : List ℕ) (at : ℕ) (s : List ℕ) → at + length s ≤ length xs →
@@ -56,7 +62,8 @@ unfolding putAt
 part-put xs at s h =
     let whole : take (length xs - at) (drop at xs) ≡ drop at xs = take-all (length xs - at) (drop at xs) (omega (arith, length-drop at xs)) in
     let rest : drop (length xs - at) (drop at xs) ≡ [] = drop-of-length-le (drop at xs) {i = length xs - at} (omega (arith, length-drop at xs)) in
-    rw (rest, whole) (simp (zero-add, drop-drop) (ap (λ (l : List ℕ). take at xs ++ l) (append-nil _) ∙ sym (append-assoc (take at xs) s (drop (at + length s) xs))))
+    let regroup = sym (append-assoc (take at xs) s (drop (at + length s) xs)) in
+    rw (rest, whole) (simp (zero-add, drop-drop) (ap (λ (l : List ℕ). take at xs ++ l) (append-nil _) ∙ regroup))
 
 -- ---- what a writer goes by
 

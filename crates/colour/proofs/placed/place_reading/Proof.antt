@@ -17,7 +17,10 @@ use Rattle.colour.proofs.placed.place_reading.Statement.{statement}
 use Rattle.colour.proofs.placed.place_reading.Tie as tie
 
 module _ (x y z : Float) {u v w : Units} {t : Taken} (et : t ≡ taken u v w) where
-  xyz-is : (white : White) {r : Reading} {p : Placed} → r ≡ Xyz x y z → u ≡ floatUnits Tristimulus x → v ≡ floatUnits Tristimulus y → w ≡ floatUnits Tristimulus z → p ≡ placeXyz white t → p ≡ place white r
+  xyz-is :
+      (white : White) {r : Reading} {p : Placed} →
+      r ≡ Xyz x y z → u ≡ floatUnits Tristimulus x → v ≡ floatUnits Tristimulus y → w ≡ floatUnits Tristimulus z →
+      p ≡ placeXyz white t → p ≡ place white r
   unfolding place
   xyz-is white er eu ev ew ep = cc
 
@@ -25,7 +28,10 @@ module _ (x y z : Float) {u v w : Units} {t : Taken} (et : t ≡ taken u v w) wh
   xyz-within eu ev ew =
       rw (et, eu, ev, ew) (taken-xyz-within _ _ _ (float-number-within Tristimulus x) (float-number-within Tristimulus y) (float-number-within Tristimulus z))
 
-  lab-is : (white : White) {r : Reading} {p : Placed} → r ≡ Lab x y z → u ≡ floatUnits Lightness x → v ≡ floatUnits Opponent y → w ≡ floatUnits Opponent z → p ≡ placeLab t → p ≡ place white r
+  lab-is :
+      (white : White) {r : Reading} {p : Placed} →
+      r ≡ Lab x y z → u ≡ floatUnits Lightness x → v ≡ floatUnits Opponent y → w ≡ floatUnits Opponent z →
+      p ≡ placeLab t → p ≡ place white r
   unfolding place
   lab-is white er eu ev ew ep = cc
 

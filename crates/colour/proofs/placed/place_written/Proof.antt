@@ -17,7 +17,10 @@ use Rattle.colour.proofs.placed.place_written.Statement.{statement}
 use Rattle.colour.proofs.placed.place_written.Tie as tie
 
 module _ (x y z : Decimal) {u v w : Units} {t : Taken} (et : t ≡ taken u v w) where
-  xyz-is : (white : White) {r : Written} {p : Placed} → r ≡ Xyz x y z → u ≡ decimalUnits Tristimulus x → v ≡ decimalUnits Tristimulus y → w ≡ decimalUnits Tristimulus z → p ≡ placeXyz white t → p ≡ placeWritten white r
+  xyz-is :
+      (white : White) {r : Written} {p : Placed} →
+      r ≡ Xyz x y z → u ≡ decimalUnits Tristimulus x → v ≡ decimalUnits Tristimulus y → w ≡ decimalUnits Tristimulus z →
+      p ≡ placeXyz white t → p ≡ placeWritten white r
   unfolding placeWritten
   xyz-is white er eu ev ew ep = cc
 
@@ -25,7 +28,10 @@ module _ (x y z : Decimal) {u v w : Units} {t : Taken} (et : t ≡ taken u v w) 
   xyz-within eu ev ew =
       rw (et, eu, ev, ew) (taken-xyz-within _ _ _ (decimal-number-within Tristimulus x) (decimal-number-within Tristimulus y) (decimal-number-within Tristimulus z))
 
-  lab-is : (white : White) {r : Written} {p : Placed} → r ≡ Lab x y z → u ≡ decimalUnits Lightness x → v ≡ decimalUnits Opponent y → w ≡ decimalUnits Opponent z → p ≡ placeLab t → p ≡ placeWritten white r
+  lab-is :
+      (white : White) {r : Written} {p : Placed} →
+      r ≡ Lab x y z → u ≡ decimalUnits Lightness x → v ≡ decimalUnits Opponent y → w ≡ decimalUnits Opponent z →
+      p ≡ placeLab t → p ≡ placeWritten white r
   unfolding placeWritten
   lab-is white er eu ev ew ep = cc
 

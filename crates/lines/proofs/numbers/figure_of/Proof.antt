@@ -7,6 +7,7 @@ use native.Mathlib.Omega.{arith}
 use borrow.Author.Needs.{needs}
 use lib.Dec.{ltb}
 use Rattle.text.specs.Decimal.{shown}
+use Rattle.text.specs.Decimal.Laws.{shown-split}
 use Rattle.text.specs.declared.decimal.Shown.{Shown}
 use Rattle.lines.specs.Lines.{figure}
 use Rattle.lines.proofs.numbers.figure_of.Statement.{statement}
@@ -16,8 +17,7 @@ abbrev ten-thousandths : ℕ → ℕ
 ten-thousandths m = m / 1048576 * 10000 + m % 1048576 * 10000 / 1048576
 
 shown-is : (m : ℕ) → ten-thousandths m ≡ shown 4 (2 ^ 20) m
-unfolding shown
-shown-is m = omega arith
+shown-is m = sym (shown-split 4 (2 ^ 20) m (omega arith))
 
 figure-is :
     (below : Bool) (m : ℕ) {minus : Bool} → minus ≡ (below && ltb 0 (ten-thousandths m)) →

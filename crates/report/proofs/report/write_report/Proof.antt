@@ -1,4 +1,5 @@
--- Too little room: nothing is written. Otherwise the part from the column on is lent to the line writer, and comes back with the report at its start. Assumes nothing.
+-- With too little room nothing is written. Otherwise the part from the column on is lent to the line writer, and comes back with the report at
+-- its start. Assumes nothing.
 use mathlib.Core.Path.{sym, ap, _∙_}
 use mathlib.Core.List.{List, _++_}
 use Prim.Native.Nat.{ℕ, _-_}

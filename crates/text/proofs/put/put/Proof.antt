@@ -18,7 +18,9 @@ abbrev μ-loop : tie.MeasureT-loop
 μ-loop dst₀ at src j₀ dst j = length src - j
 
 -- a turn's store
-stored : (d s d₀ : List ℕ) (at j : ℕ) → d ≡ paste d₀ at s j → at + j < length d₀ → j < length s → set d (at + j) (getD s j 0) ≡ paste d₀ at s (j + 1)
+stored :
+    (d s d₀ : List ℕ) (at j : ℕ) → d ≡ paste d₀ at s j → at + j < length d₀ → j < length s →
+    set d (at + j) (getD s j 0) ≡ paste d₀ at s (j + 1)
 stored d s d₀ at j e hd hs = rw (e, add-one j) (paste-suc d₀ at s j 0 hd hs)
 
 loop-holds : tie.Need-loop-holds Inv-loop μ-loop
