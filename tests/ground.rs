@@ -343,7 +343,7 @@ fn around_cut(cases: &mut Cases, random: &mut Random, number: u32, white: [u128;
     for place in 0..3 {
         let last = paper::greatest(150_000_000, |x| !above_cut(x, white[place]));
         for tenths in 10 * last - 20..=10 * last + 30 {
-            for _ in 0..16 {
+            for _ in 0..60 {
                 let mut readings = random.three(Random::tristimulus_of_any_size);
                 readings[place] = float_near(tenths, 10 * MILLION);
                 cases.xyz(number, readings);
@@ -388,7 +388,7 @@ fn around_256(cases: &mut Cases, random: &mut Random, number: u32, white: [u128;
 }
 
 fn ordinary(cases: &mut Cases, random: &mut Random, number: u32, white: [u128; 3]) {
-    for _ in 0..2_000 {
+    for _ in 0..4_000 {
         cases.xyz(number, random.three(Random::tristimulus));
         cases.xyz(
             number,
