@@ -30,7 +30,6 @@ use Rattle.standard.specs.declared.load.Acceptance.the-variants as A
 use Rattle.standard.specs.declared.judge.Judgement.{Judgement}
 use Rattle.standard.specs.declared.judge.Judged.{Judged}
 use Rattle.standard.specs.declared.judge.TestFigures.{TestFigures}
-use Rattle.standard.specs.declared.judge.Named.{Named}
 use Rattle.standard.specs.declared.judge.Named.the-variants as N
 use Rattle.standard.specs.declared.judge.Outcome.{Outcome}
 use Rattle.standard.specs.declared.judge.Outcome.the-variants as O
@@ -169,6 +168,11 @@ unfoldable pub outcome : Station → Reading → Outcome
 outcome station r =
     let n : ℕ = refusal (judgeFaults 0 station r) in
     cond (eqb n 0) (said station r) (O.Refused n)
+
+-- 01's number of what a call comes to
+abbrev pub numberOf : Outcome → ℕ
+numberOf (O.Refused n) = n
+numberOf (O.Said j) = 0
 
 -- the test specimen's L*, a*, b* and C, then DL, DC, DH, DE
 unfoldable pub testFigures : Judgement → TestFigures

@@ -81,7 +81,7 @@ fn is_withheld(formula: Formula, colour: GridColour) -> bool
 }
 
 // The sheet, the names and the verdict: the semi-axes are worked out anew from the standard.
-pub fn judgement_of(s: Standard, t: GridColour) -> Judgement
+pub(crate) fn judgement_of(s: Standard, t: GridColour) -> Judgement
     requires { ⌜ Judgeable s t ⌝ }
     ensures { λ r. ⌜ r ≡ judgementOf s t ⌝ }
 {

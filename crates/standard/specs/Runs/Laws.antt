@@ -2,7 +2,7 @@
 -- accepted; so the next call's answer and bytes are those of that station. Assumes nothing.
 use mathlib.Core.Path.{_≡_, refl, sym, ap, _∙_}
 use mathlib.Core.List.{List, [], _∷_}
-use mathlib.Core.Option.{Option, none, some}
+use mathlib.Core.Option.{Option, none}
 use Rattle.colour.specs.declared.placed.Reading.{Reading}
 use Rattle.standard.specs.declared.held.Station.{Station}
 use Rattle.standard.specs.declared.held.Station.the-variants.{Empty}

@@ -1,12 +1,11 @@
 -- Every valid standard is one that some load brings: the load of its own numbers, with the colour as L*, a*, b*. Assumes nothing.
 use mathlib.Core.Path.{_≡_, refl, sym, ap, _∙_}
 use mathlib.Core.Bool.{true}
-use Prim.Native.Nat.{ℕ}
 use Rattle.reading.specs.Grid.{valueOf}
 use Rattle.reading.specs.Reading.Laws.{lightness-back-and-read, opponent-back-and-read}
 use Rattle.colour.specs.Conversion.Ranges.{OnGrid}
 use Rattle.colour.specs.Placed.{taken, placeLab, place}
-use Rattle.colour.specs.White.{whiteNumbered, numberOfWhite, numbered-back}
+use Rattle.colour.specs.White.{whiteNumbered, numberOfWhite}
 use Rattle.colour.specs.declared.conversion.GridColour.{GridColour}
 use Rattle.colour.specs.declared.placed.Placed.the-variants.{At}
 use Rattle.colour.specs.declared.placed.Reading.{Reading}

@@ -1,7 +1,7 @@
 -- What callers use of the answers: each way out of a load and of a judgement, that only valid standards are taken, and that every judgement lies
 -- within the sheet's bounds. Assumes nothing.
 use mathlib.Core.Path.{_≡_, refl, sym, ap, _∙_, subst}
-use mathlib.Core.Bool.{Bool, true, false, cond}
+use mathlib.Core.Bool.{Bool, true, false, not, cond}
 use mathlib.Core.List.{List, [], _∷_, _++_}
 use Prim.Native.Nat.{ℕ, _^_, _<_}
 use native.Mathlib.Omega.{arith}
@@ -38,10 +38,10 @@ use Rattle.standard.specs.declared.judge.Outcome.{Outcome}
 use Rattle.standard.specs.declared.judge.Outcome.the-variants as O
 use Rattle.standard.specs.Standard.{within, whiteAt, onGrid, valid}
 use Rattle.standard.specs.Standard.Laws.{grid-on, ranges-of-valid}
-use Rattle.standard.specs.Refusals.{first, firstOf, refusal, formulaFault, whiteFault, weightFault, toleranceFault}
+use Rattle.standard.specs.Refusals.{first, firstOf, refusal, fault, formulaFault, whiteFault, weightFault, toleranceFault}
 use Rattle.standard.specs.Refusals.Laws.{firstOf-append, firstOf-last, first-zero, firstOf-none, no-fault}
 use Rattle.standard.specs.Station.{colourIn, loadFaults, standardOf, acceptance, referenceFigures, loaded, loadAnswer}
-use Rattle.standard.specs.Station.{judgeFaults, judgementOf, outcome, testFigures, judged, judgeAnswer, Judgeable, Bounded}
+use Rattle.standard.specs.Station.{judgeFaults, judgementOf, said, outcome, numberOf, testFigures, judged, judgeAnswer, Judgeable, Bounded}
 
 -- a reading with no refusal is placed, on the grid
 pub placed-on-grid : (w : White) (r : Reading) (p : Placed) → p ≡ place w r → refusalOf p ≡ 0 → OnGrid (colourIn p)
@@ -69,9 +69,11 @@ module _ (x : Load) where
 
   -- a lent slice's fault comes last
   pub load-refusal-room : (room : ℕ) → refusal (loadFaults room x) ≡ first (refusal (loadFaults 0 x)) room
-  unfolding refusal loadFaults
-  load-refusal-room room = firstOf-last (0 ∷ 0 ∷ formulaFault (x .formula) ∷ whiteFault (x .white) ∷ weightFault (x .l) ∷ weightFault (x .c)
-      ∷ toleranceFault (x .tolerance) ∷ refusalOf (place (whiteAt (x .white)) (x .reference)) ∷ 0 ∷ []) room
+  unfolding refusal loadFaults firstOf
+  load-refusal-room room =
+      let placed : ℕ = refusalOf (place (whiteAt (x .white)) (x .reference)) in
+      firstOf-last
+      (formulaFault (x .formula) ∷ whiteFault (x .white) ∷ weightFault (x .l) ∷ weightFault (x .c) ∷ toleranceFault (x .tolerance) ∷ placed ∷ []) room
 
   module _ {n : ℕ} (e : n ≡ refusal (loadFaults 0 x)) where
     pub acceptance-taken : n ≡ 0 → acceptance x ≡ A.Taken (standardOf x)
@@ -163,6 +165,15 @@ axes-small f {R} h =
 
 -- ---- a judgement
 
+-- by a valid standard every colour of the grid can be judged
+pub judgeable-at : (s : Standard) → valid s ≡ true → {T : GridColour} → OnGrid T → Judgeable s T
+judgeable-at s v g =
+    let in-range = ranges-of-valid s v in
+    record {
+      range = record { lightness = in-range .l; chroma = in-range .c; reference = in-range .colour; specimen = g };
+      tolerance = in-range .high;
+    }
+
 module _ (s : Standard) (r : Reading) where
   pub outcome-invalid : valid s ≡ false → outcome (Holds s) r ≡ O.Refused 9
   unfolding outcome refusal judgeFaults firstOf
@@ -186,12 +197,7 @@ module _ (s : Standard) (r : Reading) where
     outcome-refused z = rw (refusal-is, ne-eqb (refusalOf p) 0 z)
 
     pub judgeable : refusalOf p ≡ 0 → Judgeable s (colourIn p)
-    judgeable z =
-        let in-range = ranges-of-valid s h in
-        record {
-          range = record { lightness = in-range .l; chroma = in-range .c; reference = in-range .colour; specimen = placed-on-grid (s .white) r p e z };
-          tolerance = in-range .high;
-        }
+    judgeable z = judgeable-at s h (placed-on-grid (s .white) r p e z)
 
 -- what is said lies within the sheet's bounds
 bounded : (s : Standard) (T : GridColour) → Judgeable s T → Bounded (judgementOf s T)
@@ -221,6 +227,25 @@ said-bounded (Holds s) r {j} e = go (valid s) refl (eqb (refusalOf (place (s .wh
         let same : judgementOf s (colourIn (place (s .white) r)) ≡ j = cc (outcome-said s r h refl none) in
         subst (λ (k : Judgement). Bounded k) same (bounded s _ (judgeable s r h refl none))
     go true h false z = let no : _≡_ {A = ℕ} 0 1 = cc (outcome-refused s r h refl (eqb-false _ 0 z)) in absurd (omega arith)
+
+-- a lent room's fault comes last
+pub judge-refusal-room : (station : Station) (r : Reading) (room : ℕ) → refusal (judgeFaults room station r) ≡ first (refusal (judgeFaults 0 station r)) room
+unfolding refusal judgeFaults firstOf
+judge-refusal-room Empty r room = refl
+judge-refusal-room (Holds s) r room = firstOf-last (fault 9 (not (valid s)) ∷ refusalOf (place (s .white) r) ∷ []) room
+
+-- 01's number of what a call comes to is that of its first fault
+pub number-of-outcome : (n : ℕ) (o : Outcome) → (n ≡ 0 → numberOf o ≡ 0) → numberOf (cond (eqb n 0) o (O.Refused n)) ≡ n
+number-of-outcome n o h = go (eqb n 0) refl
+  where
+    go : (b : Bool) → eqb n 0 ≡ b → numberOf (cond b o (O.Refused n)) ≡ n
+    go true e = let none = eqb-true n 0 e in h none ∙ sym none
+    go false e = refl
+
+pub outcome-number : (station : Station) (r : Reading) → numberOf (outcome station r) ≡ refusal (judgeFaults 0 station r)
+unfolding outcome refusal judgeFaults firstOf
+outcome-number Empty r = refl
+outcome-number (Holds s) r = number-of-outcome _ (said (Holds s) r) (λ none. refl)
 
 -- each way out of a judgement
 module _ (station : Station) (r : Reading) {o : Outcome} (e : o ≡ outcome station r) where

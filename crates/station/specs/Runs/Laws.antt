@@ -1,26 +1,29 @@
 -- THE THEOREM ON RUNS, on slices: after any calls the station's slice is that of one that was freshly started and given the last accepted load
 -- alone, or zeros if none was accepted; and it holds what the station as a value is. Assumes nothing.
-use mathlib.Core.Path.{_≡_, refl, sym, ap, _∙_}
+use mathlib.Core.Path.{_≡_, refl, sym, ap, _∙_, subst}
 use mathlib.Core.List.{List, [], _∷_}
 use mathlib.Core.Option.{Option, none, some}
-use Prim.Native.Nat.{ℕ}
+use Prim.Native.Nat.{ℕ, _<_}
 use borrow.Author.Tests.{eq-eqb}
-use lib.ListN.{length}
+use lib.ListN.{length, getD}
+use Rattle.colour.specs.declared.placed.Reading.{Reading}
 use Rattle.standard.specs.declared.held.Standard.{Standard}
-use Rattle.standard.specs.declared.held.Station.the-variants.{Empty}
+use Rattle.standard.specs.declared.held.Station.the-variants.{Empty, Holds}
 use Rattle.standard.specs.declared.load.Load.{Load}
 use Rattle.standard.specs.declared.load.Acceptance.{Acceptance}
 use Rattle.standard.specs.declared.load.Acceptance.the-variants.{Refused, Taken}
-use Rattle.standard.specs.Station.{acceptance, loaded, loadAnswer}
+use Rattle.standard.specs.Refusals.{refusal, firstOf}
+use Rattle.standard.specs.Station.{acceptance, loaded, loadAnswer, judgeFaults, outcome}
 use Rattle.standard.specs.Station.Laws.{taken-valid}
+use Rattle.standard.specs.Station.Every.{loadFor, loadFor-taken}
 use Rattle.standard.specs.Runs.{Call, load, judge, ticket, later, lastFrom, lastAccepted, stationAfter, freshStation}
 use Rattle.standard.specs.Runs.Laws.{run-station}
 use Rattle.stored.specs.Record.{encode, decode, zeros}
 use Rattle.stored.specs.Record.Laws.{stores}
-use Rattle.stored.specs.Record.Back.{length-encode, decode-encode, zeros-empty, length-zeros}
-use Rattle.station.specs.Calls.{loadCall}
+use Rattle.stored.specs.Record.Back.{length-encode, decode-encode, decode-only, zeros-empty, length-zeros}
+use Rattle.station.specs.Calls.{Answer, Gives, loadCall, judgeCall}
 use Rattle.station.specs.Calls.Laws.{load-call-refused, load-call-stored}
-use Rattle.station.specs.Runs.{sliceAfter, freshSlice}
+use Rattle.station.specs.Runs.{sliceAfter, freshSlice, freshJudge, AsFresh}
 
 -- what a load leaves of 20 bytes
 load-bytes : (xs : List ℕ) → length xs ≡ 20 → (x : Load) {s : Standard} → acceptance x ≡ Taken s → loadCall xs x .bytes ≡ encode s
@@ -29,6 +32,16 @@ load-bytes xs n x {s} e =
 
 refused-bytes : (xs : List ℕ) (x : Load) {n : ℕ} → acceptance x ≡ Refused n → loadCall xs x .bytes ≡ xs
 refused-bytes xs x e = sym (load-call-refused xs x refl e .bytes)
+
+-- WHAT A LOAD STORES IS READ BACK
+pub load-read-back : (xs : List ℕ) → length xs ≡ 20 → (x : Load) {s : Standard} → acceptance x ≡ Taken s → decode (loadCall xs x .bytes) ≡ Holds s
+load-read-back xs n x {s} e = ap decode (load-bytes xs n x e) ∙ decode-encode s (taken-valid x e)
+
+-- EVERY SLICE THAT HOLDS A STANDARD IS ONE THAT SOME LOAD LEAVES
+pub held-is-loaded : (xs : List ℕ) → ((k : ℕ) → getD xs k 0 < 256) → {s : Standard} → decode xs ≡ Holds s → xs ≡ loadCall zeros (loadFor s) .bytes
+held-is-loaded xs bytes {s} e =
+    let (v, same) = decode-only xs bytes e in
+    same ∙ sym (load-bytes zeros length-zeros (loadFor s) (loadFor-taken s v))
 
 fresh-length : (o : Option Load) → length (freshSlice o) ≡ 20
 unfolding freshSlice
@@ -66,7 +79,32 @@ fresh-holds (some x) = go (acceptance x) refl
     go : (a : Acceptance) → acceptance x ≡ a → decode (loadCall zeros x .bytes) ≡ loaded Empty (acceptance x) .station
     go (Refused n) e = ap decode (refused-bytes zeros x e) ∙ zeros-empty ∙ ap (λ (b : Acceptance). loaded Empty b .station) (sym e)
     go (Taken s) e =
-        ap decode (load-bytes zeros length-zeros x e) ∙ decode-encode s (taken-valid x e) ∙ ap (λ (b : Acceptance). loaded Empty b .station) (sym e)
+        load-read-back zeros length-zeros x e ∙ ap (λ (b : Acceptance). loaded Empty b .station) (sym e)
 
 pub slice-holds : (cs : List Call) → decode (sliceAfter zeros cs) ≡ stationAfter Empty cs
 slice-holds cs = ap decode (run-slice cs) ∙ fresh-holds (lastAccepted cs) ∙ sym (run-station cs)
+
+-- ---- the next call
+
+pub run-load : (cs : List Call) (x : Load) → loadCall (sliceAfter zeros cs) x ≡ loadCall (freshSlice (lastAccepted cs)) x
+run-load cs x = ap (λ (xs : List ℕ). loadCall xs x) (run-slice cs)
+
+zeros-judge : (r : Reading) (room : List ℕ) (column : ℕ) → judgeCall zeros r room column ≡ record { number = 9; bytes = room }
+unfolding judgeCall outcome refusal judgeFaults firstOf
+zeros-judge r room column = rw zeros-empty
+
+fresh-judge : (o : Option Load) (r : Reading) (room : List ℕ) (column : ℕ) → judgeCall (freshSlice o) r room column ≡ freshJudge o r room column
+unfolding freshSlice freshJudge
+fresh-judge none r room column = zeros-judge r room column
+fresh-judge (some x) r room column = refl
+
+pub run-judge :
+    (cs : List Call) (r : Reading) (room : List ℕ) (column : ℕ) → judgeCall (sliceAfter zeros cs) r room column ≡ freshJudge (lastAccepted cs) r room column
+run-judge cs r room column = ap (λ (xs : List ℕ). judgeCall xs r room column) (run-slice cs) ∙ fresh-judge (lastAccepted cs) r room column
+
+-- the same for the code of `judge_call`, whose contract cites it
+pub judged-after :
+    (xs : List ℕ) (r : Reading) (room : List ℕ) (column : ℕ) {n : ℕ} {ys : List ℕ} → Gives (judgeCall xs r room column) n ys →
+    AsFresh xs r room column n ys
+judged-after xs r room column {n} {ys} g cs e =
+    subst (λ (a : Answer). Gives a n ys) (ap (λ (l : List ℕ). judgeCall l r room column) e ∙ run-judge cs r room column) g

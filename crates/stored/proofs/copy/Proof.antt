@@ -2,10 +2,10 @@
 -- Assumes nothing.
 use Prim.Native.Nat.{ℕ, _+_, _-_, _≤_, _<_}
 use mathlib.Core.Path.{_≡_, refl, sym, ap, _∙_}
-use mathlib.Core.List.{List, _++_, append-nil}
+use mathlib.Core.List.{List, append-nil}
 use native.Mathlib.Omega.{arith}
 use native.Mathlib.Nat.{zero-add}
-use lib.ListN.{length, take, drop, getD, set, length-set, drop-of-length-le}
+use lib.ListN.{length, drop, getD, set, length-set, drop-of-length-le}
 use lib.Seq.{paste, paste-zero, paste-suc, take-all}
 use native.Mathlib.Numerals.{add-one}
 use Rattle.stored.proofs.copy.Statement.{statement}
@@ -18,8 +18,8 @@ abbrev μ-loop : tie.MeasureT-loop
 μ-loop dst₀ src i₀ dst i = length src - i
 
 -- a turn's store
-stored : (d s d₀ : List ℕ) (j : ℕ) → d ≡ paste d₀ 0 s j → length d₀ ≡ length s → j < length s → set d j (getD s j 0) ≡ paste d₀ 0 s (j + 1)
-stored d s d₀ j e hd hs =
+stored-next : (d s d₀ : List ℕ) (j : ℕ) → d ≡ paste d₀ 0 s j → length d₀ ≡ length s → j < length s → set d j (getD s j 0) ≡ paste d₀ 0 s (j + 1)
+stored-next d s d₀ j e hd hs =
     rw (e, add-one j)
     (ap (λ (k : ℕ). set (paste d₀ 0 s j) k (getD s j 0)) (sym (zero-add j)) ∙ paste-suc d₀ 0 s j 0 (omega (arith, zero-add j)) hs)
 
@@ -46,8 +46,9 @@ loop-less c = omega arith
 
 loop-again : tie.Need-loop-again Inv-loop μ-loop
 loop-again c =
-    let at-loop = c .before .before .loop in
-    (stored _ _ _ _ (at-loop .inv .0) (c .before .before .before .pre) (omega arith), omega arith, simp length-set (at-loop .inv .2))
+    let turn = c .before .before in
+    let inv = turn .loop .inv in
+    (stored-next _ _ _ _ (inv .0) (turn .before .pre) (omega arith), omega arith, simp length-set (inv .2))
 
 same-length : tie.Need-same-length Inv-loop μ-loop
 same-length c = c .before .loop .inv .2

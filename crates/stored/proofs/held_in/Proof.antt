@@ -43,13 +43,15 @@ standard : tie.Need-returns-3
 standard c =
     let at-fields = c .before .before in
     let both = at-fields .before in
-    held-standard _ (formula-in (has-formula (both .before))) (white-in both) (at-fields .fields-of .ensures) (sym (c .before .is-valid .ensures) ∙ c .if3 .taken)
+    held-standard _ (formula-in (has-formula (both .before))) (white-in both) (at-fields .fields-of .ensures)
+    (sym (c .before .is-valid .ensures) ∙ c .if3 .taken)
 
 invalid : tie.Need-returns-4
 invalid c =
     let at-fields = c .before .before in
     let both = at-fields .before in
-    held-invalid _ (formula-in (has-formula (both .before))) (white-in both) (at-fields .fields-of .ensures) (sym (c .before .is-valid .ensures) ∙ c .if3 .left)
+    held-invalid _ (formula-in (has-formula (both .before))) (white-in both) (at-fields .fields-of .ensures)
+    (sym (c .before .is-valid .ensures) ∙ c .if3 .left)
 
 pub held-in-spec : {M : Type 1} → statement M
 held-in-spec =

@@ -10,7 +10,8 @@ use Rattle.stored.proofs.store.Tie as tie
 stored : tie.Need-returns
 stored c =
     let at-copy = c .before .before in
-    let at-bytes = at-copy .before .before .before in
+    let at-arg = at-copy .before .before in
+    let at-bytes = at-arg .before in
     let twenty = at-bytes .before in
     let a = twenty .before .before .args in (
       sym (eq-eqb (length (a .slice .now)) 20 (twenty .if1 .taken)),

@@ -1,5 +1,5 @@
 -- `stored::twos_of` meets its contract: one law of `Record/Laws.antt` for each sign. Assumes nothing.
-use mathlib.Core.Path.{_≡_, sym, ap, _∙_}
+use mathlib.Core.Path.{sym, ap, _∙_}
 use Prim.Native.Nat.{ℕ, _-_, _%_, _^_}
 use borrow.Author.Needs.{needs}
 use mir.Facts.{toZ-ofZ}

@@ -21,7 +21,6 @@ use Rattle.colour.specs.declared.white.Numbered.the-variants.{Is, Unknown}
 use Rattle.sheet.specs.declared.formula.Formula.{Formula}
 use Rattle.sheet.specs.declared.formula.Formula.the-variants.{CIELAB, CIE94, CMC}
 use Rattle.standard.specs.declared.held.Standard.{Standard}
-use Rattle.standard.specs.declared.held.Station.{Station}
 use Rattle.standard.specs.declared.held.Station.the-variants.{Empty, Holds}
 use Rattle.standard.specs.Standard.{within, numberOfFormula, formulaAt, whiteIn, whiteAt, valid}
 use Rattle.standard.specs.Standard.Laws.{within-true, ranges-of-valid}
@@ -159,7 +158,9 @@ white-within D65Two = refl
 white-within CTen = refl
 white-within CTwo = refl
 
-twos-bytes : (z : ℤ) → ∣ z ∣ ≤ 2 ^ 28 → (n : ℕ) → n ≡ twosOf z → ofTwos (n % 256 + n / 256 % 256 * 256 + n / 65536 % 256 * 65536 + n / 16777216 % 256 * 16777216) ≡ z
+twos-bytes :
+    (z : ℤ) → ∣ z ∣ ≤ 2 ^ 28 → (n : ℕ) → n ≡ twosOf z →
+    ofTwos (n % 256 + n / 256 % 256 * 256 + n / 65536 % 256 * 65536 + n / 16777216 % 256 * 16777216) ≡ z
 twos-bytes z h n e = ap ofTwos (four-bytes n (rw e (twosOf-lt z h)) ∙ e) ∙ ofTwos-back z h
 
 fields-back : (s : Standard) → valid s ≡ true → fields (encode s) ≡ s

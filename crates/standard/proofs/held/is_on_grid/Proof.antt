@@ -17,13 +17,19 @@ back s = search needs
 
 -- ---- what is known where each test passed
 
-not-below : (c : tie.Else1) → minus (c .before .before .before .args .c .L .0) ≡ false
-not-below c = let told = c .before in rw (back (told .before .before)) at (c .if1 .left)
+abbrev start : tie.Else1 → tie.Start
+start c = let told : tie.After-struct-told = c .before in told .before .before
 
-L-in : (c : tie.Else2) → let told = c .before .before .before in leb ∣ told .before .before .args .c .L .0 ∣ (120 * 2 ^ 20) ≡ true
+not-below : (c : tie.Else1) → minus (start c .args .c .L .0) ≡ false
+not-below c = rw (back (start c)) at (c .if1 .left)
+
+L-in : (c : tie.Else2) → leb ∣ start (c .before .before) .args .c .L .0 ∣ (120 * 2 ^ 20) ≡ true
 L-in c = sym (c .before .within .ensures) ∙ not-false _ (c .if2 .left)
 
-a-in : (c : tie.Else3) → let at-L = c .before .before in let told = at-L .before .before .before in leb ∣ told .before .before .args .c .a .0 ∣ (256 * 2 ^ 20) ≡ true
+abbrev in-L : tie.Else3 → tie.Else2
+in-L c = c .before .before
+
+a-in : (c : tie.Else3) → leb ∣ start (in-L c .before .before) .args .c .a .0 ∣ (256 * 2 ^ 20) ≡ true
 a-in c = sym (c .before .within2 .ensures) ∙ not-false _ (c .if3 .left)
 
 below : tie.Need-returns
@@ -38,15 +44,14 @@ a-out : tie.Need-returns-3
 unfolding onGrid
 a-out c =
     let at-a = c .before in
-    let in-L = at-a .before in
-    rw (not-below (in-L .before .before), L-in in-L, sym (at-a .within2 .ensures) ∙ not-true _ (c .if3 .taken))
+    let after-L = at-a .before in
+    rw (not-below (after-L .before .before), L-in after-L, sym (at-a .within2 .ensures) ∙ not-true _ (c .if3 .taken))
 
 b-decides : tie.Need-returns-4
 unfolding onGrid
 b-decides c =
     let in-a = c .before in
-    let in-L = in-a .before .before in
-    rw (not-below (in-L .before .before), L-in in-L, a-in in-a, c .within3 .ensures)
+    rw (not-below (in-L in-a .before .before), L-in (in-L in-a), a-in in-a, c .within3 .ensures)
 
 pub is-on-grid-spec : {M : Type 1} → statement M
 is-on-grid-spec =

@@ -1,5 +1,5 @@
 -- `judge::judgement_of` meets its contract: the sheet, the names and the verdict, a part a call; DE is small enough for the verdict. Assumes nothing.
-use mathlib.Core.Path.{_≡_, ap, _∙_}
+use mathlib.Core.Path.{_≡_}
 use mathlib.Core.Bool.{Bool}
 use borrow.Author.Needs.{needs}
 use lib.IntN.{ℤ}
@@ -55,10 +55,6 @@ module _ (c : tie.After-hue-name) where
   C-back : toZ w64 (ofZ w64 (at-sheet .comparison-of .result .shift .C)) ≡ at-sheet .comparison-of .result .shift .C
   C-back = search needs
 
-DE-fits : tie.Need-verdict-of-requires
-unfolding comparison
-DE-fits c κs = (start c .pre .tolerance, rw (at-sheet c .comparison-of .ensures) (sheet-DE-lt _ (start c .pre .range)))
-
 returns : tie.Need-returns
 returns c =
     let at-verdict = c .before in
@@ -66,6 +62,10 @@ returns c =
     judgement-is _ _ (at-sheet h .comparison-of .ensures) (L-back h) (at-lightness h .lightness-name .ensures)
     (C-back h) (at-chroma h .chroma-name .ensures) (h .hue-name .ensures) (at-verdict .verdict-of .ensures)
     (c .is-withheld .ensures)
+
+DE-fits : tie.Need-verdict-of-requires
+unfolding comparison
+DE-fits c κs = (start c .pre .tolerance, rw (at-sheet c .comparison-of .ensures) (sheet-DE-lt _ (start c .pre .range)))
 
 pub judgement-of-spec : {M : Type 1} → statement M
 judgement-of-spec =

@@ -15,7 +15,7 @@ invalid c = sym (outcome-invalid _ _ (sym (c .before .is-valid .ensures) ∙ not
 -- ---- where the reading is placed
 module _ (c : tie.After-place-reading) where
   abbrev start : tie.Start
-  start = c .before .before .before
+  start = let in-range : tie.Else1 = c .before in in-range .before .before
 
   is-valid : valid (start .args .s) ≡ true
   is-valid = let at-valid = c .before .before in sym (at-valid .is-valid .ensures) ∙ not-false _ (c .before .if1 .left)

@@ -41,7 +41,8 @@ returns c =
     let at-DE = at-L .before in
     let s = at-DE .before .before in
     figures-are (s .args .j) (at-L .value .ensures .is) (at-a .value2 .ensures .is) (at-b .value3 .ensures .is) (at-DE .before .value-of .ensures)
-    (at-DL .value4 .ensures .is ∙ ap valueOf (back (omega (arith, s .pre .parts .L)))) (at-DC .value5 .ensures .is ∙ ap valueOf (back (omega (arith, s .pre .parts .C))))
+    (at-DL .value4 .ensures .is ∙ ap valueOf (back (omega (arith, s .pre .parts .L))))
+    (at-DC .value5 .ensures .is ∙ ap valueOf (back (omega (arith, s .pre .parts .C))))
     (c .value6 .ensures .is ∙ ap valueOf (back (s .pre .parts .H))) (at-DE .value-of2 .ensures)
 
 pub test-figures-spec : {M : Type 1} → statement M

@@ -37,7 +37,7 @@ module _ (x : Load) {w : White} {p : Placed} (hw : w ≡ whiteAt (x .white)) (hp
 -- ---- the places that the answers speak of, seen from where the refusal is known
 module _ (c : tie.After-first-of2) where
   abbrev at-weights : tie.After-weights-refusal
-  at-weights = c .before .before .before
+  at-weights = let placed : tie.After-refusal = c .before .before in placed .before
 
   abbrev at-numbers : tie.After-numbers-refusal
   at-numbers = let known : tie.After-struct-known2 = at-weights .before .before in known .before .before
@@ -55,7 +55,8 @@ module _ (c : tie.After-first-of2) where
 
 taken : tie.Need-returns
 taken c =
-    let at-colour = c .before .before .before in
+    let casts = c .before .before in
+    let at-colour = casts .before in
     let at-formula = at-colour .before in
     let none = at-formula .before in
     let known = none .before in

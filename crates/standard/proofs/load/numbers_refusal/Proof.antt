@@ -18,7 +18,8 @@ formula-out c = sym (firstOf-fault 1 _ (sym (c .before .is-within .ensures) ∙ 
 white-out : tie.Need-returns-2
 white-out c =
     let at-white = c .before in
-    sym (firstOf-no-fault 1 _ (formula-in (at-white .before)) ∙ firstOf-fault 2 _ (sym (at-white .is-within2 .ensures) ∙ not-true _ (c .if2 .taken)) (λ z. omega arith))
+    sym (firstOf-no-fault 1 _ (formula-in (at-white .before))
+    ∙ firstOf-fault 2 _ (sym (at-white .is-within2 .ensures) ∙ not-true _ (c .if2 .taken)) (λ z. omega arith))
 
 neither : tie.Need-returns-3
 neither c =

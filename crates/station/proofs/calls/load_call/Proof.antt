@@ -24,12 +24,14 @@ module _ (c : tie.After-slice-known2) where
 stored : tie.Need-returns-2
 stored c =
     let d = c .before in
-    load-call-stored _ _ (at-accept d .accept .ensures) (at-standard d .s .given .1) (at-store d .store .ensures .0) (at-store d .store .ensures .1) (c .if1 .taken)
+    load-call-stored _ _ (at-accept d .accept .ensures) (at-standard d .s .given .1)
+    (at-store d .store .ensures .0) (at-store d .store .ensures .1) (c .if1 .taken)
 
 other : tie.Need-returns-3
 other c =
     let d = c .before in
-    load-call-other _ _ (at-accept d .accept .ensures) (at-standard d .s .given .1) (at-store d .store .ensures .0) (at-store d .store .ensures .1) (c .if1 .left)
+    load-call-other _ _ (at-accept d .accept .ensures) (at-standard d .s .given .1)
+    (at-store d .store .ensures .0) (at-store d .store .ensures .1) (c .if1 .left)
 
 pub load-call-spec : {M : Type 1} → statement M
 load-call-spec =

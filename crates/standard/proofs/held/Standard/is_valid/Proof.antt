@@ -15,7 +15,9 @@ l-in c = sym (c .before .is-within .ensures) ∙ not-false _ (c .if1 .left)
 c-in : (c : tie.Else2) → let in-l = c .before .before in within 500 10000 (in-l .before .before .args .self .c) ≡ true
 c-in c = sym (c .before .is-within2 .ensures) ∙ not-false _ (c .if2 .left)
 
-tolerance-in : (c : tie.Else3) → let in-c = c .before .before in let in-l = in-c .before .before in within 100 10000 (in-l .before .before .args .self .tolerance) ≡ true
+tolerance-in :
+    (c : tie.Else3) → let in-c = c .before .before in let in-l = in-c .before .before in
+    within 100 10000 (in-l .before .before .args .self .tolerance) ≡ true
 tolerance-in c = sym (c .before .is-within3 .ensures) ∙ not-false _ (c .if3 .left)
 
 l-out : tie.Need-returns

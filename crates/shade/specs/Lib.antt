@@ -1,0 +1,2 @@
+-- What the contracts of `shade` cite.
+pub mod Shade

@@ -1,0 +1,107 @@
+// The C entries of libshade.a, one call each. include/shade.h says the same for C.
+use colour::placed::Reading;
+use standard::load::Load;
+use station::calls::judge_call;
+use station::calls::load_call;
+use station::calls::ticket_call;
+ghost use mathlib.Core.Path.{_≡_};
+ghost use mathlib.Core.List.{List};
+ghost use Rattle.colour.specs.declared.placed.Reading.the-variants.{Xyz, Lab};
+ghost use Rattle.standard.specs.Runs.{Call, lastAccepted};
+ghost use Rattle.stored.specs.Record.{zeros};
+ghost use Rattle.station.specs.Calls.{Gives, loadCall, judgeCall, ticketCall};
+ghost use Rattle.station.specs.Runs.{sliceAfter, freshJudge};
+ghost use Rattle.shade.specs.Shade.{loadOf};
+
+#[no_mangle]
+pub extern "C" fn shade_load_xyz(
+    station: &mut [u8],
+    formula: u32,
+    white: u32,
+    l: u32,
+    c: u32,
+    tolerance: u32,
+    x: f64,
+    y: f64,
+    z: f64,
+) -> u32
+    ensures { λ n. ⌜ Gives (loadCall (now (station .entry)) (loadOf formula white l c tolerance (Xyz x y z))) n (now (station .exit)) ⌝ }
+{
+    let reference = Reading::Xyz(x, y, z);
+    load_call(
+        station,
+        Load {
+            formula,
+            white,
+            l,
+            c,
+            tolerance,
+            reference,
+        },
+    )
+}
+
+#[no_mangle]
+pub extern "C" fn shade_load_lab(
+    station: &mut [u8],
+    formula: u32,
+    white: u32,
+    l: u32,
+    c: u32,
+    tolerance: u32,
+    lightness: f64,
+    a: f64,
+    b: f64,
+) -> u32
+    ensures { λ n. ⌜ Gives (loadCall (now (station .entry)) (loadOf formula white l c tolerance (Lab lightness a b))) n (now (station .exit)) ⌝ }
+{
+    let reference = Reading::Lab(lightness, a, b);
+    load_call(
+        station,
+        Load {
+            formula,
+            white,
+            l,
+            c,
+            tolerance,
+            reference,
+        },
+    )
+}
+
+#[no_mangle]
+pub extern "C" fn shade_judge_xyz(
+    station: &[u8],
+    x: f64,
+    y: f64,
+    z: f64,
+    room: &mut [u8],
+    column: usize,
+) -> u32
+    ensures { λ n. ⌜ Gives (judgeCall (now (station .entry)) (Xyz x y z) (now (room .entry)) column) n (now (room .exit)) ⌝ }
+    ensures run { λ n. ⌜ ((cs : List Call) → now (station .entry) ≡ sliceAfter zeros cs → Gives (freshJudge (lastAccepted cs) (Xyz x y z) (now (room .entry)) column) n (now (room .exit))) ⌝ }
+{
+    judge_call(station, Reading::Xyz(x, y, z), room, column)
+}
+
+#[no_mangle]
+pub extern "C" fn shade_judge_lab(
+    station: &[u8],
+    lightness: f64,
+    a: f64,
+    b: f64,
+    room: &mut [u8],
+    column: usize,
+) -> u32
+    ensures { λ n. ⌜ Gives (judgeCall (now (station .entry)) (Lab lightness a b) (now (room .entry)) column) n (now (room .exit)) ⌝ }
+    ensures run { λ n. ⌜ ((cs : List Call) → now (station .entry) ≡ sliceAfter zeros cs → Gives (freshJudge (lastAccepted cs) (Lab lightness a b) (now (room .entry)) column) n (now (room .exit))) ⌝ }
+{
+    judge_call(station, Reading::Lab(lightness, a, b), room, column)
+}
+
+#[no_mangle]
+pub extern "C" fn shade_ticket(text: &[u8], room: &mut [u8], column: usize) -> u32
+    ensures { λ n. ⌜ Gives (ticketCall (now (text .entry)) (now (room .entry)) column) n (now (room .exit)) ⌝ }
+{
+    ticket_call(text, room, column)
+}
