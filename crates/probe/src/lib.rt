@@ -1,7 +1,4 @@
 // C entries over the lowest crates, for the tests outside the proof. A host links `shade`, not this.
-pub mod rows;
-mod words;
-
 use colour::conversion::GridColour;
 use colour::placed::Placed;
 use colour::placed::Reading;

@@ -2,7 +2,6 @@
 pub mod axes;
 pub mod difference;
 pub mod formula;
-mod hue;
 pub mod products;
 pub mod shift;
 pub mod verdict;

@@ -15,7 +15,7 @@ use names::is_achromatic;
 use names::lightness_name;
 use reading::grid::Grid;
 use sheet::difference::Comparison;
-use sheet::difference::comparison_of;
+use difference::comparison_of;
 use sheet::formula::Formula;
 use sheet::verdict::Verdict;
 use sheet::verdict::verdict_of;

@@ -9,7 +9,7 @@ use colour::placed::Placed;
 use colour::placed::Reading;
 use colour::placed::place_reading;
 use reading::grid::Grid;
-use sheet::axes::axes_of;
+use axes::axes_of;
 ghost use mathlib.Core.Path.{_≡_};
 ghost use mathlib.Core.List.{[], _∷_};
 ghost use Prim.Native.Nat.{_^_, _<_};

@@ -19,8 +19,8 @@ use Rattle.ticket.specs.declared.value.Space.the-variants.{Xyz, Lab}
 use Rattle.ticket.specs.declared.lines.Ticket.{Ticket}
 use Rattle.ticket.specs.declared.lines.Parsed.{Parsed}
 use Rattle.ticket.specs.declared.lines.Parsed.the-variants.{Right, Wrong}
-use Rattle.ticket.specs.Bytes.{has, before, after, startsWith, sameBytes}
-use Rattle.ticket.specs.Number.{thousandthsOf, signedOf}
+use Rattle.numerals.specs.Bytes.{has, before, after, startsWith, sameBytes}
+use Rattle.numerals.specs.Number.{thousandthsOf, signedOf}
 pub mod Laws
 pub mod Print
 pub mod Theorems

@@ -1,9 +1,4 @@
 // The lines of a ticket, in their order: each function reads one line of what is left of the text, and hands the rest on.
-use crate::bytes::find;
-use crate::bytes::part_after;
-use crate::bytes::starts;
-use crate::number::SaidNumber;
-use crate::number::thousandths;
 use crate::value::SaidFormula;
 use crate::value::SaidReading;
 use crate::value::SaidSpace;
@@ -15,6 +10,11 @@ use crate::value::space_named;
 use crate::value::white_named;
 use colour::placed::Written;
 use colour::white::White;
+use numerals::bytes::find;
+use numerals::bytes::part_after;
+use numerals::bytes::starts;
+use numerals::number::SaidNumber;
+use numerals::number::thousandths;
 use sheet::formula::Formula;
 ghost use mathlib.Core.Path.{_≡_};
 ghost use Prim.Native.Nat.{_≤_};

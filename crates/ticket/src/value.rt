@@ -1,16 +1,16 @@
-// What a line's value saysNumber: a name, or a reading of three numbers.
-use crate::bytes::part_after;
-use crate::bytes::part_before;
-use crate::bytes::same;
-use crate::number::SaidSigned;
-use crate::number::signed;
+// What a line's value says: a name, or a reading of three numbers.
 use colour::placed::Written;
 use colour::white::White;
+use numerals::bytes::part_after;
+use numerals::bytes::part_before;
+use numerals::bytes::same;
+use numerals::number::SaidSigned;
+use numerals::number::signed;
 use reading::decimal::Decimal;
 use sheet::formula::Formula;
 ghost use mathlib.Core.Path.{_≡_};
 ghost use Rattle.ticket.specs.Ticket.{formulaNamed, whiteNamed, spaceNamed, inSpace, three, readingOf};
-ghost use Rattle.ticket.specs.Number.Laws.{saysSigned};
+ghost use Rattle.numerals.specs.Number.Laws.{saysSigned};
 ghost use Rattle.ticket.specs.Ticket.Laws.{saysFormula, saysWhite, saysSpace, saysReading};
 
 // Whether the readings are tristimulus values or coordinates.

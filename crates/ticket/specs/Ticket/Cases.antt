@@ -9,8 +9,8 @@ use Rattle.colour.specs.declared.white.White.the-variants.{D65Ten}
 use Rattle.sheet.specs.declared.formula.Formula.the-variants.{CMC}
 use Rattle.ticket.specs.declared.lines.Parsed.{Parsed}
 use Rattle.ticket.specs.declared.lines.Parsed.the-variants.{Right, Wrong}
-use Rattle.ticket.specs.Bytes.{indexOf, before, after, startsWith, sameBytes}
-use Rattle.ticket.specs.Number.{numeral, digitsOf, fractionOf, decimalOf, decimalBelow, signedOf}
+use Rattle.numerals.specs.Bytes.{indexOf, before, after, startsWith, sameBytes}
+use Rattle.numerals.specs.Number.{numeral, digitsOf, fractionOf, decimalOf, decimalBelow, signedOf}
 use Rattle.ticket.specs.Ticket.{formulaNamed, whiteNamed, spaceNamed, inSpace, readingOf, due, nothingMore}
 use Rattle.ticket.specs.Ticket.{testLine, refLine, spaceLine, tolLine, cLine, factorLines, whiteLine, ticketOf}
 

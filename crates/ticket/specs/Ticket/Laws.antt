@@ -26,9 +26,9 @@ use Rattle.ticket.specs.declared.value.SaidReading.the-variants as R
 use Rattle.ticket.specs.declared.lines.Parsed.{Parsed}
 use Rattle.ticket.specs.declared.lines.Parsed.the-variants.{Right, Wrong}
 use Rattle.ticket.specs.declared.lines.Ticket.{Ticket}
-use Rattle.ticket.specs.Bytes.{indexOf, has, before, after, startsWith, sameBytes}
-use Rattle.ticket.specs.Bytes.Laws.{Found, drop-is}
-use Rattle.ticket.specs.Number.{digitsOf, decimalOf, thousandthsOf, signedOf}
+use Rattle.numerals.specs.Bytes.{indexOf, has, before, after, startsWith, sameBytes}
+use Rattle.numerals.specs.Bytes.Laws.{Found, drop-is}
+use Rattle.numerals.specs.Number.{digitsOf, decimalOf, thousandthsOf, signedOf}
 use Rattle.ticket.specs.Ticket.{formulaNamed, whiteNamed, spaceNamed, inSpace, three, readingOf, orWrong, due}
 use Rattle.ticket.specs.Ticket.{nothingMore, tolLine, cLine, missing, factorLines, whiteLine, ticketOf}
 

@@ -9,7 +9,7 @@ use Rattle.text.specs.Ascii.{ascii}
 use Rattle.ticket.specs.declared.lines.Ticket.{Ticket}
 use Rattle.ticket.specs.declared.lines.Parsed.{Parsed}
 use Rattle.ticket.specs.declared.lines.Parsed.the-variants.{Right, Wrong}
-use Rattle.ticket.specs.Bytes.{startsWith}
+use Rattle.numerals.specs.Bytes.{startsWith}
 use Rattle.ticket.specs.Ticket.{formulaNamed, due, nothingMore, testLine, refLine, spaceLine, tolLine, cLine, missing, factorLines, whiteLine, ticketOf}
 use Rattle.ticket.specs.Ticket.Laws.{factors-missing, factors-given, ticket-of-long, ticket-of-short}
 use Rattle.ticket.specs.Ticket.Print.{spaceOf, headText, factorText, bodyText, printTicket, printShort, Writable}

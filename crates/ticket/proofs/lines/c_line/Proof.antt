@@ -1,7 +1,7 @@
 -- `lines::c_line` meets its contract: the line is wrong, or the next has what it says. Assumes nothing.
 use mathlib.Core.Path.{ap}
 use borrow.Author.Needs.{needs}
-use Rattle.ticket.specs.Number.Laws.{saysNumber}
+use Rattle.numerals.specs.Number.Laws.{saysNumber}
 use Rattle.ticket.specs.Ticket.{cLine}
 use Rattle.ticket.specs.Ticket.Laws.{due-wrong, due-next, thousandths-of-nil}
 use Rattle.ticket.proofs.lines.c_line.Statement.{statement}

@@ -1,7 +1,7 @@
 -- `lines::factor_lines` meets its contract: with tol= at its head the text has no lines l and c; else a line l is due. Assumes nothing.
 use mathlib.Core.Path.{ap, _∙_}
 use borrow.Author.Needs.{needs}
-use Rattle.ticket.specs.Number.Laws.{saysNumber}
+use Rattle.numerals.specs.Number.Laws.{saysNumber}
 use Rattle.ticket.specs.Ticket.Laws.{due-wrong, due-next, thousandths-of-nil, factors-missing, factors-given}
 use Rattle.ticket.proofs.lines.factor_lines.Statement.{statement}
 use Rattle.ticket.proofs.lines.factor_lines.Tie as tie

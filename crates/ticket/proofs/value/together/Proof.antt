@@ -5,7 +5,7 @@ use borrow.Author.Needs.{needs}
 use Rattle.reading.specs.declared.decimal.Decimal.{Decimal}
 use Rattle.colour.specs.declared.placed.Written.{Written}
 use Rattle.ticket.specs.declared.value.Space.{Space}
-use Rattle.ticket.specs.Number.Laws.{saysSigned}
+use Rattle.numerals.specs.Number.Laws.{saysSigned}
 use Rattle.ticket.specs.Ticket.{inSpace, three}
 use Rattle.ticket.proofs.value.together.Statement.{statement}
 use Rattle.ticket.proofs.value.together.Tie as tie

@@ -21,9 +21,9 @@ use Rattle.sheet.specs.declared.formula.Formula.{Formula}
 use Rattle.sheet.specs.declared.formula.Formula.the-variants.{CIELAB, CIE94, CMC}
 use Rattle.ticket.specs.declared.value.Space.{Space}
 use Rattle.ticket.specs.declared.value.Space.the-variants.{Xyz, Lab}
-use Rattle.ticket.specs.Bytes.{indexOf, has, before, after, startsWith, sameBytes}
-use Rattle.ticket.specs.Number.Laws.{ten-pos}
-use Rattle.ticket.specs.Number.{numeral, digitsOf, fractionOf, decimalOf, thousandthsOf, decimalBelow, signedOf}
+use Rattle.numerals.specs.Bytes.{indexOf, has, before, after, startsWith, sameBytes}
+use Rattle.numerals.specs.Number.Laws.{ten-pos}
+use Rattle.numerals.specs.Number.{numeral, digitsOf, fractionOf, decimalOf, thousandthsOf, decimalBelow, signedOf}
 use Rattle.ticket.specs.Ticket.{formulaNamed, whiteNamed, spaceNamed, inSpace, readingOf, due}
 use Rattle.ticket.specs.Ticket.Print.{formulaName, whiteName, spaceName, digitText, width, decimalText, signedText, triple, readingText}
 use Rattle.ticket.specs.Ticket.Print.{spaceOf, line, Fits}

@@ -1,0 +1,3 @@
+// Words about bytes, and numbers in decimal digits.
+pub mod bytes;
+pub mod number;

@@ -1,0 +1,17 @@
+-- `words::axis_number` meets its contract: each arm is a clause of `axisNumber`. Assumes nothing.
+use borrow.Author.Needs.{needs}
+use Rattle.probe_sheet.proofs.words.axis_number.Statement.{statement}
+use Rattle.probe_sheet.proofs.words.axis_number.Tie as tie
+
+pub axis-number-spec : {M : Type 1} → statement M
+axis-number-spec =
+    tie.close
+    (tie.spec
+    (λ c. search needs)
+    (λ c. search needs)
+    (λ c. search needs)
+    (λ c. search needs)
+    (λ c. rw (c .enum-told .given .1))
+    (λ c. rw (c .enum-told2 .given .1))
+    (λ c. rw (c .enum-told3 .given .1))
+    (λ c. rw (c .enum-told4 .given .1)))

@@ -1,0 +1,15 @@
+-- `words::lightness_number` meets its contract: each arm is a clause of `lightnessNumber`. Assumes nothing.
+use borrow.Author.Needs.{needs}
+use Rattle.probe_sheet.proofs.words.lightness_number.Statement.{statement}
+use Rattle.probe_sheet.proofs.words.lightness_number.Tie as tie
+
+pub lightness-number-spec : {M : Type 1} → statement M
+lightness-number-spec =
+    tie.close
+    (tie.spec
+    (λ c. search needs)
+    (λ c. search needs)
+    (λ c. search needs)
+    (λ c. rw (c .enum-told .given .1))
+    (λ c. rw (c .enum-told2 .given .1))
+    (λ c. rw (c .enum-told3 .given .1)))
