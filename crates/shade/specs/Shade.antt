@@ -2,6 +2,7 @@
 use Prim.Native.Nat.{ℕ}
 use Rattle.colour.specs.declared.placed.Reading.{Reading}
 use Rattle.standard.specs.declared.load.Load.{Load}
+pub mod One
 
 abbrev pub loadOf : (formula white l c tolerance : ℕ) → Reading → Load
 loadOf formula white l c tolerance r =

@@ -36,6 +36,7 @@ use Rattle.standard.specs.declared.judge.Outcome.the-variants as O
 use Rattle.standard.specs.Standard.{formulaAt, whiteAt, valid}
 use Rattle.standard.specs.Refusals.{Faults, refusal, fault, formulaFault, whiteFault, weightFault, toleranceFault}
 pub mod Laws
+pub mod One
 pub mod Every
 pub mod Exact
 

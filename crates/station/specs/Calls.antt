@@ -20,6 +20,8 @@ use Rattle.standard.specs.Station.{loadFaults, standardOf, judgeFaults, outcome
 use Rattle.standard.specs.Ticket.{ticketFaults, ticketOutcome}
 use Rattle.stored.specs.Record.{encode, decode}
 pub mod Laws
+pub mod One
+pub mod Every
 
 -- a call's number, and the bytes of the slice afterwards
 pub record Answer : Type 0 where
@@ -32,8 +34,11 @@ pub record Gives (a : Answer) (n : ℕ) (xs : List ℕ) : Type 0 where
   pub bytes : xs ≡ a .bytes
 
 -- ANY TWO OUTCOMES THAT A CONTRACT ADMITS ARE EQUAL: the number, and the bytes of the lent slice
-pub gives-one : {a : Answer} {n m : ℕ} {xs ys : List ℕ} → Gives a n xs → Gives a m ys → (n ≡ m) × (xs ≡ ys)
-gives-one p q = (p .number ∙ sym (q .number), p .bytes ∙ sym (q .bytes))
+abbrev pub AdmitsOne : Answer → Type 0
+AdmitsOne a = (n m : ℕ) (xs ys : List ℕ) → Gives a n xs → Gives a m ys → (n ≡ m) × (xs ≡ ys)
+
+pub gives-one : (a : Answer) → AdmitsOne a
+gives-one a n m xs ys p q = (p .number ∙ sym (q .number), p .bytes ∙ sym (q .bytes))
 
 -- on 0 the slice is what the call writes; a refused call leaves it
 abbrev pub writing : (number : ℕ) (written before : List ℕ) → Answer

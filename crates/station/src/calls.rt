@@ -27,7 +27,7 @@ pub fn load_call(station: &mut [u8], x: Load) -> u32
 }
 
 // What a report says of a judgement.
-fn report_of(j: Judgement) -> Report
+pub fn report_of(j: Judgement) -> Report
     ensures { λ r. ⌜ r ≡ reportOf j ⌝ }
 {
     let standard = j.standard;

@@ -3,45 +3,22 @@
 use mathlib.Core.Path.{_≡_, refl, sym, ap, _∙_, subst}
 use mathlib.Core.List.{List, [], _∷_}
 use mathlib.Core.Option.{Option, none, some}
-use Prim.Native.Nat.{ℕ, _<_}
-use borrow.Author.Tests.{eq-eqb}
-use lib.ListN.{length, getD}
+use Prim.Native.Nat.{ℕ}
+use lib.ListN.{length}
 use Rattle.colour.specs.declared.placed.Reading.{Reading}
-use Rattle.standard.specs.declared.held.Standard.{Standard}
-use Rattle.standard.specs.declared.held.Station.the-variants.{Empty, Holds}
+use Rattle.standard.specs.declared.held.Station.the-variants.{Empty}
 use Rattle.standard.specs.declared.load.Load.{Load}
 use Rattle.standard.specs.declared.load.Acceptance.{Acceptance}
 use Rattle.standard.specs.declared.load.Acceptance.the-variants.{Refused, Taken}
 use Rattle.standard.specs.Refusals.{refusal, firstOf}
 use Rattle.standard.specs.Station.{acceptance, loaded, loadAnswer, judgeFaults, outcome}
-use Rattle.standard.specs.Station.Laws.{taken-valid}
-use Rattle.standard.specs.Station.Every.{loadFor, loadFor-taken}
 use Rattle.standard.specs.Runs.{Call, load, judge, ticket, later, lastFrom, lastAccepted, stationAfter, freshStation}
 use Rattle.standard.specs.Runs.Laws.{run-station}
-use Rattle.stored.specs.Record.{encode, decode, zeros}
-use Rattle.stored.specs.Record.Laws.{stores}
-use Rattle.stored.specs.Record.Back.{length-encode, decode-encode, decode-only, zeros-empty, length-zeros}
+use Rattle.stored.specs.Record.{decode, zeros}
+use Rattle.stored.specs.Record.Back.{length-encode, zeros-empty, length-zeros}
 use Rattle.station.specs.Calls.{Answer, Gives, loadCall, judgeCall}
-use Rattle.station.specs.Calls.Laws.{load-call-refused, load-call-stored}
+use Rattle.station.specs.Calls.Every.{load-bytes, refused-bytes, taken-read-back}
 use Rattle.station.specs.Runs.{sliceAfter, freshSlice, freshJudge, AsFresh}
-
--- what a load leaves of 20 bytes
-load-bytes : (xs : List ℕ) → length xs ≡ 20 → (x : Load) {s : Standard} → acceptance x ≡ Taken s → loadCall xs x .bytes ≡ encode s
-load-bytes xs n x {s} e =
-    sym (load-call-stored xs x refl e (sym (eq-eqb (length xs) 20 n)) (stores s xs n) refl .bytes)
-
-refused-bytes : (xs : List ℕ) (x : Load) {n : ℕ} → acceptance x ≡ Refused n → loadCall xs x .bytes ≡ xs
-refused-bytes xs x e = sym (load-call-refused xs x refl e .bytes)
-
--- WHAT A LOAD STORES IS READ BACK
-pub load-read-back : (xs : List ℕ) → length xs ≡ 20 → (x : Load) {s : Standard} → acceptance x ≡ Taken s → decode (loadCall xs x .bytes) ≡ Holds s
-load-read-back xs n x {s} e = ap decode (load-bytes xs n x e) ∙ decode-encode s (taken-valid x e)
-
--- EVERY SLICE THAT HOLDS A STANDARD IS ONE THAT SOME LOAD LEAVES
-pub held-is-loaded : (xs : List ℕ) → ((k : ℕ) → getD xs k 0 < 256) → {s : Standard} → decode xs ≡ Holds s → xs ≡ loadCall zeros (loadFor s) .bytes
-held-is-loaded xs bytes {s} e =
-    let (v, same) = decode-only xs bytes e in
-    same ∙ sym (load-bytes zeros length-zeros (loadFor s) (loadFor-taken s v))
 
 fresh-length : (o : Option Load) → length (freshSlice o) ≡ 20
 unfolding freshSlice
@@ -79,7 +56,7 @@ fresh-holds (some x) = go (acceptance x) refl
     go : (a : Acceptance) → acceptance x ≡ a → decode (loadCall zeros x .bytes) ≡ loaded Empty (acceptance x) .station
     go (Refused n) e = ap decode (refused-bytes zeros x e) ∙ zeros-empty ∙ ap (λ (b : Acceptance). loaded Empty b .station) (sym e)
     go (Taken s) e =
-        load-read-back zeros length-zeros x e ∙ ap (λ (b : Acceptance). loaded Empty b .station) (sym e)
+        taken-read-back zeros length-zeros x e ∙ ap (λ (b : Acceptance). loaded Empty b .station) (sym e)
 
 pub slice-holds : (cs : List Call) → decode (sliceAfter zeros cs) ≡ stationAfter Empty cs
 slice-holds cs = ap decode (run-slice cs) ∙ fresh-holds (lastAccepted cs) ∙ sym (run-station cs)
