@@ -1,0 +1,69 @@
+-- 01-scope.md, "Ticket and report": what the program prints for a text. `Printed/Laws.antt` has each way out and that there is one outcome,
+-- `Printed/Cases.antt` whole texts with what is printed for them. Assumes nothing.
+use mathlib.Core.Path.{_≡_, sym, _∙_}
+use mathlib.Core.Bool.{Bool, false, cond}
+use mathlib.Core.List.{List, [], _∷_}
+use Prim.Native.Nat.{ℕ}
+use lib.Dec.{leb}
+use lib.ListN.{length}
+use Rattle.text.specs.Ascii.{ascii}
+use Rattle.text.specs.Put.{putAt, joined}
+use Rattle.text.specs.Decimal.{width, lastDigits}
+use Rattle.text.specs.declared.decimal.Shown.{Shown}
+use Rattle.ticket.specs.Ticket.{ticketOf}
+use Rattle.ticket.specs.declared.lines.Parsed.{Parsed}
+use Rattle.ticket.specs.declared.lines.Parsed.the-variants.{Right, Wrong}
+use Rattle.report.specs.Report.{reportText}
+use Rattle.standard.specs.declared.judge.Outcome.{Outcome}
+use Rattle.standard.specs.declared.judge.Outcome.the-variants.{Refused, Said}
+use Rattle.standard.specs.Ticket.{ticketOutcome}
+use Rattle.station.specs.Calls.{reportOf}
+pub mod Laws
+pub mod Cases
+
+-- ---- the line of a refusal
+
+-- a whole number without leading zeros
+unfoldable pub wholeText : ℕ → List ℕ
+wholeText n = lastDigits (width n) n
+
+-- the decimal that has these digits before its point
+abbrev pub whole : ℕ → Shown
+whole n = record { places = 0; minus = false; whole = n; units = 0 }
+
+-- refused=7 line=3
+abbrev pub refusalPieces : (number line : ℕ) → List (List ℕ)
+refusalPieces number line = ascii "refused=" ∷ wholeText number ∷ ascii " line=" ∷ wholeText line ∷ ascii "\n" ∷ []
+
+unfoldable pub refusalLine : (number line : ℕ) → List ℕ
+refusalLine number line = joined (refusalPieces number line)
+
+-- ---- what is printed
+
+-- the line that a refusal names: the first wrong one, and 0 where the text is right
+abbrev pub lineOf : Parsed → ℕ
+lineOf (Right t) = 0
+lineOf (Wrong line) = line
+
+abbrev pub outcomeText : Outcome → (line : ℕ) → List ℕ
+outcomeText (Refused number) line = refusalLine number line
+outcomeText (Said j) line = reportText (reportOf j)
+
+-- THE PROGRAM: from the bytes of standard input to those of standard output
+unfoldable pub printedText : List ℕ → List ℕ
+printedText text = outcomeText (ticketOutcome (ticketOf text)) (lineOf (ticketOf text))
+
+-- ---- a text printed into a lent slice
+
+abbrev pub fits : (out s : List ℕ) → Bool
+fits out s = leb (length s) (length out)
+
+-- s at the start of the slice, every other byte as it was, and how long s is; or 0 and the slice unchanged, where it is too short for s
+pub record Prints (before s : List ℕ) (n : ℕ) (after : List ℕ) : Type 0 where
+  pub count : n ≡ cond (fits before s) (length s) 0
+  pub bytes : after ≡ cond (fits before s) (putAt before 0 s) before
+
+-- ANY TWO OUTCOMES THAT A CONTRACT ADMITS ARE EQUAL: the count, and the bytes of the lent slice
+pub prints-one :
+    {before s : List ℕ} {n m : ℕ} {after others : List ℕ} → Prints before s n after → Prints before s m others → (n ≡ m) × (after ≡ others)
+prints-one p q = (p .count ∙ sym (q .count), p .bytes ∙ sym (q .bytes))

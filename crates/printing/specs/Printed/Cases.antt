@@ -1,0 +1,67 @@
+-- Texts with what is printed for them, by computing: 01's whole case, and refusals. No proof cites this. Assumes nothing.
+use Prim.Native.String.{String}
+use mathlib.Core.Path.{_≡_, refl}
+use mathlib.Core.List.{List, [], _∷_, _++_}
+use Prim.Native.Nat.{ℕ}
+use Rattle.text.specs.Ascii.{ascii}
+use Rattle.text.specs.Put.{joined}
+use Rattle.text.specs.Decimal.{shown, lastDigits, widthIn, decimalText}
+use Rattle.rounding.specs.Root.{rootOf}
+use Rattle.rounding.specs.Signed.{_÷_}
+use Rattle.reading.specs.Reading.{decimalUnits}
+use Rattle.colour.specs.Conversion.{atPlaces}
+use Rattle.colour.specs.Placed.{taken, placeLab, placeWritten}
+use Rattle.sheet.specs.Sheet.{chroma, cross, dot, sameHue, hueChange, semiAxisL, semiAxisC, weighted, weightedH, whole, hueAxis}
+use Rattle.sheet.specs.Sheet.{axesCMC, semiAxes, shift, differences, sheet, compared, comparison, verdict}
+use Rattle.names.specs.Names.{achromatic}
+use Rattle.numerals.specs.Bytes.{indexOf, before, after, startsWith, sameBytes}
+use Rattle.numerals.specs.Number.{numeral, digitsOf, fractionOf, decimalOf, signedOf}
+use Rattle.ticket.specs.Ticket.{formulaNamed, whiteNamed, spaceNamed, inSpace, readingOf, due, nothingMore}
+use Rattle.ticket.specs.Ticket.{testLine, refLine, spaceLine, tolLine, cLine, factorLines, whiteLine, ticketOf}
+use Rattle.lines.specs.Lines.{numberLine, chromaticLine}
+use Rattle.report.specs.Report.{settingLines, figureLines, wordLines, reportText}
+use Rattle.standard.specs.Standard.{within}
+use Rattle.standard.specs.Refusals.{firstOf, refusal}
+use Rattle.standard.specs.Station.{judgementOf}
+use Rattle.standard.specs.Ticket.{ticketFaults, ticketStandard, ticketOutcome}
+use Rattle.printing.specs.Printed.{wholeText, refusalLine, printedText}
+
+abbrev printedFor : String → List ℕ
+printedFor s = printedText (ascii s)
+
+-- from line 3 on
+abbrev from3 : String → List ℕ
+from3 s = printedText (ascii "formula=CMC\nwhite=D65/10\n" ++ ascii s)
+
+pub record PrintedCases : Type 0 where
+  pub whole-case :
+      printedFor "formula=CMC\nwhite=D65/10\nl=1.000\nc=1.000\ntol=1.000\nspace=LAB\nref=50 0 0\ntest=51 0 0\n"
+      ≡ joined
+      (ascii "formula=CMC\n"
+      ∷ ascii "white=D65/10\n"
+      ∷ ascii "l=1.000\n"
+      ∷ ascii "c=1.000\n"
+      ∷ ascii "DE=0.9188\n"
+      ∷ ascii "DL=0.9188\n"
+      ∷ ascii "DC=withheld\n"
+      ∷ ascii "DH=withheld\n"
+      ∷ ascii "lightness=lighter\n"
+      ∷ ascii "chroma=withheld\n"
+      ∷ ascii "hue=withheld\n"
+      ∷ ascii "verdict=pass\n"
+      ∷ [])
+  pub empty : printedFor "" ≡ ascii "refused=7 line=1\n"
+  pub third-line : from3 "l=1,000\nc=1.000\ntol=1.000\nspace=LAB\nref=50 0 0\ntest=51 0 0\n" ≡ ascii "refused=7 line=3\n"
+  pub weight : from3 "l=0.499\nc=1\ntol=1\nspace=LAB\nref=50 0 0\ntest=51 0 0\n" ≡ ascii "refused=3 line=0\n"
+  pub out-of-range : from3 "tol=1\nspace=LAB\nref=50 0 0\ntest=121 0 0\n" ≡ ascii "refused=6 line=0\n"
+
+pub printed-cases : PrintedCases
+unfolding shown lastDigits widthIn decimalText rootOf _÷_ decimalUnits atPlaces taken placeLab placeWritten
+    chroma cross dot sameHue hueChange semiAxisL semiAxisC weighted weightedH whole hueAxis
+    axesCMC semiAxes shift differences sheet compared comparison verdict achromatic
+    indexOf before after startsWith sameBytes numeral digitsOf fractionOf decimalOf signedOf
+    formulaNamed whiteNamed spaceNamed inSpace readingOf due nothingMore
+    testLine refLine spaceLine tolLine cLine factorLines whiteLine ticketOf
+    numberLine chromaticLine settingLines figureLines wordLines reportText
+    within firstOf refusal judgementOf ticketFaults ticketStandard ticketOutcome wholeText refusalLine printedText
+printed-cases = record { whole-case = refl; empty = refl; third-line = refl; weight = refl; out-of-range = refl }

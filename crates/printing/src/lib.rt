@@ -1,0 +1,47 @@
+// What the program prints for a text.
+mod refusal;
+
+use refusal::print_refusal;
+use report::Report;
+use report::report_len;
+use report::write_report;
+use standard::judge::Outcome;
+use standard::written::ticket_outcome;
+use station::calls::report_of;
+use ticket::lines::Parsed;
+use ticket::lines::parse;
+ghost use mathlib.Core.Path.{_≡_};
+ghost use Rattle.report.specs.Report.{reportText};
+ghost use Rattle.printing.specs.Printed.{Prints, lineOf, printedText};
+
+// The line that a refusal names: 0 for all but 7.
+fn line_of(p: Parsed) -> u32
+    ensures { λ n. ⌜ n ≡ lineOf p ⌝ }
+{
+    match p {
+        Parsed::Right(_) => 0,
+        Parsed::Wrong(line) => line,
+    }
+}
+
+fn print_report(rep: Report, out: &mut [u8]) -> usize
+    ensures { λ n. ⌜ Prints (now (out .entry)) (reportText rep) n (now (out .exit)) ⌝ }
+{
+    if write_report(out, 0, rep) == 0 {
+        report_len(rep)
+    } else {
+        0
+    }
+}
+
+// Puts what the program prints for a text at the start of `out`, and answers how many bytes that is; where `out` is too short for it, the answer
+// is 0 and `out` stays.
+pub fn printed(text: &[u8], out: &mut [u8]) -> usize
+    ensures { λ n. ⌜ Prints (now (out .entry)) (printedText (now (text .entry))) n (now (out .exit)) ⌝ }
+{
+    let p = parse(text);
+    match ticket_outcome(p) {
+        Outcome::Refused(number) => print_refusal(number, line_of(p), out),
+        Outcome::Said(j) => print_report(report_of(j), out),
+    }
+}
