@@ -1,6 +1,8 @@
-# Usage: . tests/host.sh
-#     host_build PROGRAM SOURCE.c ARCHIVE    compiles SOURCE.c and links it with an archive of `rt staticlib`
-#     host_run PROGRAM [WORD...]             runs it
+# Usage: . tests/host.sh    (in the repository's folder)
+#     host_build PROGRAM SOURCE.c WORD...     compiles SOURCE.c and links it with archives of `rt staticlib`; the words may also
+#                                             be flags -I, -L and -l, as pkg-config gives them
+#     host_run PROGRAM [WORD...]              runs it
+#     host_accepts LANGUAGE STANDARD SOURCE   compiles a source as that language and keeps nothing
 #
 # The archives are x86-64 code. On x86-64 the machine's own cc serves. Elsewhere it is the kit's clang, the system's ld.lld,
 # the kit's C library for x86-64 and the kit's emulator. HOST_BY_KIT=1 goes this second way on x86-64 too, where it needs no
@@ -16,17 +18,37 @@ host_toolchain() {
     echo "$kit/on/$(uname -m)/toolchain"
 }
 
-# The next two run in a shell of their own, so that they change no variable of the script that calls them.
+# The next ones run in a shell of their own, so that they change no variable of the script that calls them.
+
+# The kit's clang, compiling for x86-64. It has no headers of its own, so it takes this machine's: those of cc, and of the C
+# library, which clang looks for in /usr/include but not in the folder of another machine below. They serve, since every type
+# that the headers used here name has the same size on both.
+host_clang() (
+    exec "$(host_toolchain)/bin/clang" --target=x86_64-linux-gnu -isystem "$(cc -print-file-name=include)" \
+        -isystem "/usr/include/$(uname -m)-linux-gnu" "$@"
+)
 
 host_build() (
-    program=$1 source=$2 archive=$3
+    program=$1 source=$2
+    shift 2
+    include='' link=''
+    for word in "$@"; do
+        case $word in
+        -I*) include="$include $word" ;;
+        *) link="$link $word" ;;
+        esac
+    done
+    # shellcheck disable=SC2086 # one word for each folder, archive or flag
+    set -- -O2 -Wall -Wextra -Werror ${include:--Iinclude}
     if host_is_native; then
-        exec cc -O2 -Wall -Wextra -Werror -o "$program" "$source" "$archive"
+        # shellcheck disable=SC2086
+        exec cc "$@" -o "$program" "$source" $link
     fi
-    own=$(host_toolchain) lib=$(host_toolchain)/lib
-    "$own/bin/clang" --target=x86_64-linux-gnu -O2 -Wall -Wextra -Werror -fPIC -c "$source" -o "$program.o" &&
+    lib=$(host_toolchain)/lib
+    # shellcheck disable=SC2086
+    host_clang "$@" -fPIC -c "$source" -o "$program.o" &&
         ld.lld -pie -o "$program" --dynamic-linker "$lib/ld-linux-x86-64.so.2" "$lib/Scrt1.o" "$lib/crti.o" "$program.o" \
-            "$archive" "$lib/libc.so.6" "$lib/libc_nonshared.a" "$lib/crtn.o"
+            $link "$lib/libc.so.6" "$lib/libc_nonshared.a" "$lib/crtn.o"
 )
 
 host_run() (
@@ -39,3 +61,8 @@ host_run() (
     [ "$(uname -m)" = x86_64 ] || set -- "$own/bin/qemu-x86_64" "$@"
     exec "$@"
 )
+
+# By the kit's clang, which is C and C++ in one; a machine's cc need not be.
+host_accepts() {
+    host_clang -x "$1" -std="$2" -pedantic -Wall -Wextra -Werror -Iinclude -fsyntax-only "$3"
+}
