@@ -191,8 +191,9 @@ fn judged(standard: Option<Standard>, reading: &Reading) -> Answer<Vec<u8>> {
 
 /// All refusals of a ticket that apply without regard to the room.
 fn ticket_faults(words: &[u8]) -> Vec<u32> {
-    let Ok(ticket) = text::parse(words) else {
-        return vec![text::WRONG_TEXT];
+    let ticket = match text::parse(words) {
+        Ok(ticket) => ticket,
+        Err(_) => return vec![text::WRONG_TEXT],
     };
     let factors = [ticket.l, ticket.c].map(|factor| paper::factor(factor).err());
     let places = [ticket.reference, ticket.test]

@@ -1,1 +1,1 @@
-// Demand 3 of the verdict that a judgement gives: laws only, in specs/.
+// Demand 3 of every verdict that a judgement or a ticket gives: laws only, in specs/.

@@ -22,6 +22,7 @@ use Rattle.stored.specs.Record.{encode, decode}
 pub mod Laws
 pub mod One
 pub mod Every
+pub mod Numbers
 
 -- a call's number, and the bytes of the slice afterwards
 pub record Answer : Type 0 where

@@ -1,13 +1,27 @@
--- What callers use of the conversion at 20 places: how large f and L* are. Assumes nothing.
+-- That f above the cut is 01's root of the exact q; and what callers use of the conversion at 20 places: how large f and L* are. Assumes nothing.
 use mathlib.Core.Bool.{Bool, true, false, cond}
 use mathlib.Core.Path.{_≡_, refl}
 use Prim.Native.Nat.{ℕ, _+_, _-_, _*_, _/_, _^_, _≤_, _<_}
+use native.Mathlib.Nat.{le-div-iff-mul-le, div-lt-iff-lt-mul}
 use native.Mathlib.Omega.{arith}
 use borrow.Author.Tests.{ltb-true, ltb-false}
 use Rattle.rounding.specs.Fraction.{le-div, div-lt, div-le}
+use Rattle.rounding.specs.Root.{root-law}
 use Rattle.rounding.specs.Root.Laws.{le-root, root-lt}
 use Rattle.colour.specs.Conversion.Ranges.{Against}
 use Rattle.colour.specs.Conversion.{bs6923, aboveCut, fHigh, fLow, f, lightness}
+
+-- f is the greatest whole number whose cube is at most q times 2 ^ 3n, q being the exact fraction x / w: both sides times w
+pub record GreatestCube (n x w f : ℕ) : Type 0 where
+  pub at-most : f ^ 3 * w ≤ x * 2 ^ (3 * n)
+  pub next-above : x * 2 ^ (3 * n) < (f + 1) ^ 3 * w
+
+-- THE ROOT IS THAT OF THE EXACT q: the definition rounds q times 2 ^ 3n down before it takes the root, which changes nothing
+pub cube-at-most-q : (n x w : ℕ) → 0 < w → GreatestCube n x w (fHigh n x w)
+unfolding fHigh
+cube-at-most-q n x w some =
+    let root = root-law 3 (x * 2 ^ (3 * n) / w) (omega arith) in
+    record { at-most = le-div-iff-mul-le some .0 (root .low); next-above = div-lt-iff-lt-mul {y = (fHigh n x w + 1) ^ 3} some .0 (root .high) }
 
 module _ (x w : ℕ) (h : Against x w) where
   -- f is below 136/116, so L* is below 120

@@ -1,5 +1,5 @@
--- What callers use of placing: each way out of it, and that every colour that is placed lies on the grid. Assumes nothing.
-use mathlib.Core.Path.{_≡_, refl, subst}
+-- What callers use of placing: each way out of it, that every colour that is placed lies on the grid, and that a decimal is always finite. Assumes nothing.
+use mathlib.Core.Path.{_≡_, refl, ap, subst}
 use mathlib.Core.Bool.{Bool, true, false, _||_, cond}
 use Prim.Native.Nat.{ℕ, _*_, _^_, _≤_, _<_, zero-le}
 use native.Mathlib.Omega.{arith}
@@ -8,8 +8,8 @@ use lib.Dec.{leb, ltb}
 use lib.IntN.{ℤ, pos}
 use lib.Ieee.{Float}
 use Rattle.rounding.specs.Signed.{∣_∣, minus}
-use Rattle.reading.specs.Reading.{rangeOf, Within, floatUnits, decimalUnits}
-use Rattle.reading.specs.Reading.Laws.{float-units-within, decimal-units-within, abs-le-of-within, not-minus-of-within}
+use Rattle.reading.specs.Reading.{rangeOf, limit, Within, floatUnits, decimalUnits}
+use Rattle.reading.specs.Reading.Laws.{float-units-within, decimal-units-in, decimal-units-out, decimal-units-within, abs-le-of-within, not-minus-of-within}
 use Rattle.reading.specs.declared.decimal.Decimal.{Decimal}
 use Rattle.reading.specs.declared.quantity.Quantity.{Quantity}
 use Rattle.reading.specs.declared.quantity.Quantity.the-variants.{Tristimulus, Lightness, Opponent}
@@ -179,3 +179,48 @@ place-written-on-grid w (W.Xyz x y z) d e =
     place-xyz-on-grid w _ d (taken-xyz-within _ _ _ (decimal-number-within Tristimulus x) (decimal-number-within Tristimulus y) (decimal-number-within Tristimulus z)) e
 place-written-on-grid w (W.Lab l a b) d e =
     place-lab-on-grid _ _ _ (decimal-number-within Lightness l) (decimal-number-within Opponent a) (decimal-number-within Opponent b) d e
+
+-- ---- a written reading is always finite
+
+decimal-finite : (q : Quantity) (d : Decimal) → isNotFinite (decimalUnits q d) ≡ false
+decimal-finite q d = go (leb (d .millionths) (limit (rangeOf q) (d .below) * 1000000)) refl
+  where
+    go : (b : Bool) → leb (d .millionths) (limit (rangeOf q) (d .below) * 1000000) ≡ b → isNotFinite (decimalUnits q d) ≡ false
+    go true h = ap isNotFinite (decimal-units-in q d (leb-true _ _ h))
+    go false h = ap isNotFinite (decimal-units-out q d (leb-false _ _ h))
+
+taken-finite : (u v w : Units) → isNotFinite u ≡ false → isNotFinite v ≡ false → isNotFinite w ≡ false → taken u v w ≡ T.NotFinite → ⊥
+taken-finite u v w hu hv hw e = go (isOutOfRange u || isOutOfRange v || isOutOfRange w) refl
+  where
+    finite : (isNotFinite u || isNotFinite v || isNotFinite w) ≡ false
+    finite = rw (hu, hv, hw)
+
+    go : (b : Bool) → (isOutOfRange u || isOutOfRange v || isOutOfRange w) ≡ b → ⊥
+    go true h = let no : _≡_ {A = ℕ} 0 1 = cc (taken-out-of-range u v w finite h) in omega arith
+    go false h = let no : _≡_ {A = ℕ} 0 1 = cc (taken-all u v w finite h) in omega arith
+
+accepted-finite : (c : GridColour) → accepted c ≡ NotFinite → ⊥
+unfolding accepted
+accepted-finite c = go (ltb (256 * 2 ^ 20) ∣ c .a .0 ∣ || ltb (256 * 2 ^ 20) ∣ c .b .0 ∣)
+  where
+    go : (b : Bool) → cond b Beyond (At c) ≡ NotFinite → ⊥
+    go true h = let no : _≡_ {A = ℕ} 0 1 = cc in omega arith
+    go false h = let no : _≡_ {A = ℕ} 0 1 = cc in omega arith
+
+taken-of-xyz : (w : White) (t : Taken) → placeXyz w t ≡ NotFinite → t ≡ T.NotFinite
+unfolding placeXyz
+taken-of-xyz w (T.Of x y z) e = absurd (accepted-finite _ e)
+taken-of-xyz w T.NotFinite e = refl
+taken-of-xyz w T.OutOfRange e = let no : _≡_ {A = ℕ} 0 1 = cc in absurd (omega arith)
+
+taken-of-lab : (t : Taken) → placeLab t ≡ NotFinite → t ≡ T.NotFinite
+unfolding placeLab
+taken-of-lab (T.Of l a b) e = let no : _≡_ {A = ℕ} 0 1 = cc in absurd (omega arith)
+taken-of-lab T.NotFinite e = refl
+taken-of-lab T.OutOfRange e = let no : _≡_ {A = ℕ} 0 1 = cc in absurd (omega arith)
+
+-- A DECIMAL IS NEVER NOT-A-NUMBER OR INFINITE: no written reading is refused with 5
+pub written-finite : (w : White) (r : Written) → placeWritten w r ≡ NotFinite → ⊥
+unfolding placeWritten
+written-finite w (W.Xyz x y z) e = taken-finite _ _ _ (decimal-finite _ x) (decimal-finite _ y) (decimal-finite _ z) (taken-of-xyz w _ e)
+written-finite w (W.Lab l a b) e = taken-finite _ _ _ (decimal-finite _ l) (decimal-finite _ a) (decimal-finite _ b) (taken-of-lab _ e)

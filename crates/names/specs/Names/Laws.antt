@@ -1,5 +1,5 @@
 -- What follows from the rule of turning: the axis met is told by the signs of a and b, it is always just one, and a hue is equal exactly when the
--- cross is 0 and the dot not negative. Assumes nothing.
+-- cross is 0 and the dot not negative, as it always is from a neutral reference. Assumes nothing.
 use mathlib.Core.Path.{_≡_, refl, sym, ap, ap₂, _∙_}
 use mathlib.Core.Bool.{Bool, true, false, not, cond, _&&_}
 use Prim.Native.Nat.{ℕ, zero, suc, _+_, _*_, _≤_, _<_, zero-le}
@@ -11,8 +11,9 @@ use lib.IntN.{ℤ, pos, negsuc, negℤ}
 use lib.Signed.{ltZ}
 use Rattle.rounding.specs.Signed.{minus}
 use Rattle.rounding.specs.Signed.Difference.{diff-same, diff-parts, diff-neg, diff-add, diff-sub, diff-mul}
+use Rattle.colour.specs.declared.conversion.GridColour.{GridColour}
 use Rattle.sheet.specs.Sheet.{sameHue, cross, dot}
-use Rattle.names.specs.Names.{direction, met, firstMet, nextMet, hueNamed}
+use Rattle.names.specs.Names.{direction, met, firstMet, nextMet, hueNamed, hueName}
 use Rattle.names.specs.declared.Axis.{Axis}
 use Rattle.names.specs.declared.Axis.the-variants.{Redder, Yellower, Greener, Bluer}
 use Rattle.names.specs.declared.Hue.{Hue}
@@ -312,3 +313,20 @@ same-of-equal cross dot a b e = go (sameHue cross dot) e
     go : (s : Bool) → cond s Equal (Towards (firstMet (minus cross) a b) (nextMet (minus cross) (firstMet (minus cross) a b))) ≡ Equal → s ≡ true
     go true h = refl
     go false h = let no : _≡_ {A = ℕ} 0 1 = cc in absurd (omega arith)
+
+-- ---- a neutral reference
+
+module _ (a b : ℤ) where
+  cross-neutral : cross (pos 0) (pos 0) a b ≡ pos 0
+  unfolding cross
+  cross-neutral = diff-same _ _ _ _ (omega arith) (diff-sub (diff-mul (diff-parts (pos 0)) (diff-parts b)) (diff-mul (diff-parts a) (diff-parts (pos 0)))) (diff-parts (pos 0))
+
+  dot-neutral : dot (pos 0) (pos 0) a b ≡ pos 0
+  unfolding dot
+  dot-neutral = diff-same _ _ _ _ (omega arith) (diff-add (diff-mul (diff-parts (pos 0)) (diff-parts a)) (diff-mul (diff-parts (pos 0)) (diff-parts b))) (diff-parts (pos 0))
+
+-- A NEUTRAL REFERENCE WITH a = b = 0 IS ALWAYS EQUAL IN HUE, whatever the test specimen is
+pub neutral-equal : (R T : GridColour) → R .a .0 ≡ pos 0 → R .b .0 ≡ pos 0 → hueName R T ≡ Equal
+unfolding hueName sameHue
+neutral-equal R T ha hb =
+    rw (ha, hb, cross-neutral (T .a .0) (T .b .0), dot-neutral (T .a .0) (T .b .0)) (hue-equal (pos 0) (pos 0) (pos 0) (pos 0) refl)
