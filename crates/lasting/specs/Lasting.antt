@@ -30,8 +30,6 @@ use Rattle.standard.specs.Standard.{valid}
 use Rattle.standard.specs.Standard.Laws.{within-true, Ranges, ranges-of-valid}
 use Rattle.standard.specs.Station.{colourIn, judgeFaults, judgementOf, outcome, judged, judgeAnswer}
 use Rattle.standard.specs.Station.Laws.{outcome-invalid, outcome-said, outcome-refused}
-use Rattle.standard.specs.Ticket.{ticketFaults, ticketStandard, ticketOutcome}
-use Rattle.standard.specs.Ticket.Laws.{ticket-refusal, ticket-judgeable, ticket-said, ticket-refused, ticket-wrong}
 use Rattle.standard.specs.declared.held.Standard.{Standard}
 use Rattle.standard.specs.declared.held.Station.{Station}
 use Rattle.standard.specs.declared.held.Station.the-variants.{Empty, Holds}
@@ -39,6 +37,8 @@ use Rattle.standard.specs.declared.judge.Judgement.{Judgement}
 use Rattle.standard.specs.declared.judge.Named.the-variants as N
 use Rattle.standard.specs.declared.judge.Outcome.{Outcome}
 use Rattle.standard.specs.declared.judge.Outcome.the-variants.{Refused, Said}
+use Rattle.written.specs.Ticket.{ticketFaults, ticketStandard, ticketOutcome}
+use Rattle.written.specs.Ticket.Laws.{ticket-refusal, ticket-judgeable, ticket-said, ticket-refused, ticket-wrong}
 pub mod Calls
 
 -- DE of a standard and a test specimen, by the sheet at n places

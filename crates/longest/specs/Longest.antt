@@ -29,14 +29,14 @@ use Rattle.standard.specs.Refusals.Laws.{first-zero, firstOf-none, no-fault}
 use Rattle.standard.specs.Standard.{within, valid}
 use Rattle.standard.specs.Station.{colourIn, judgeFaults, judgementOf, outcome, Judgeable}
 use Rattle.standard.specs.Station.Laws.{judgeable-at, judge-refusal, judgeable}
-use Rattle.standard.specs.Ticket.{ticketFaults, ticketOutcome}
-use Rattle.standard.specs.Ticket.Laws.{ticket-refusal, ticket-judgeable, ticket-wrong}
 use Rattle.standard.specs.declared.held.Standard.{Standard}
 use Rattle.standard.specs.declared.held.Station.{Station}
 use Rattle.standard.specs.declared.held.Station.the-variants.{Empty, Holds}
 use Rattle.standard.specs.declared.judge.Outcome.{Outcome}
 use Rattle.standard.specs.declared.judge.Outcome.the-variants.{Refused, Said}
 use Rattle.stored.specs.Record.{decode}
+use Rattle.written.specs.Ticket.{ticketFaults, ticketOutcome}
+use Rattle.written.specs.Ticket.Laws.{ticket-refusal, ticket-judgeable, ticket-wrong}
 use Rattle.station.specs.Calls.{Answer, reportOf, reported, judgeCall, ticketCall}
 use Rattle.station.specs.Calls.Laws.{judge-call-gives, ticket-call-gives}
 use Rattle.longest.specs.Figures.{sheet-figures, not-minus-weighted, not-minus-of-lighter, not-minus-of-equal, bracket-differs}

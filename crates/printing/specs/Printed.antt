@@ -16,7 +16,7 @@ use Rattle.ticket.specs.declared.lines.Parsed.the-variants.{Right, Wrong}
 use Rattle.report.specs.Report.{reportText}
 use Rattle.standard.specs.declared.judge.Outcome.{Outcome}
 use Rattle.standard.specs.declared.judge.Outcome.the-variants.{Refused, Said}
-use Rattle.standard.specs.Ticket.{ticketOutcome}
+use Rattle.written.specs.Ticket.{ticketOutcome}
 use Rattle.station.specs.Calls.{reportOf}
 pub mod Laws
 pub mod Cases

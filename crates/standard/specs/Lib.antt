@@ -5,7 +5,5 @@ pub mod Standard
 pub mod Refusals
 -- what a load and a judgement answer
 pub mod Station
--- what a ticket answers
-pub mod Ticket
 -- runs of calls
 pub mod Runs

@@ -1,4 +1,5 @@
 -- What a load and a judgement answer, the station being a value. Assumes nothing.
+use mathlib.Core.Path.{_≡_}
 use mathlib.Core.Bool.{Bool, false, not, cond}
 use Prim.Native.Nat.{ℕ, _^_, _≤_, _<_}
 use lib.Dec.{eqb}
@@ -203,7 +204,7 @@ judged (O.Said j) = record {
 unfoldable pub judgeAnswer : Station → Reading → Judged
 judgeAnswer station r = judged (outcome station r)
 
--- ---- the ranges that the functions inside this crate ask for
+-- ---- the ranges that the functions inside the station ask for
 
 pub record Judgeable (s : Standard) (T : GridColour) : Type 0 where
   pub range : InRange (s .l) (s .c) (s .colour) T
@@ -215,3 +216,7 @@ pub record Bounded (j : Judgement) : Type 0 where
   pub C : j .comparison .C < 2 ^ 29
   pub parts : Parts (j .comparison .differences .DL) (j .comparison .differences .DC) (j .comparison .differences .DH)
   pub DE : j .comparison .differences .DE < 2 ^ 32
+
+-- likewise where a call says something
+abbrev pub SaidBounded : Outcome → Type 0
+SaidBounded o = (j : Judgement) → o ≡ O.Said j → Bounded j

@@ -22,7 +22,7 @@ use sheet::verdict::verdict_of;
 ghost use mathlib.Core.Path.{_≡_};
 ghost use mathlib.Core.List.{List};
 ghost use Rattle.colour.specs.Conversion.Ranges.{OnGrid};
-ghost use Rattle.standard.specs.Station.{Judgeable, Bounded, withheldBy, judgementOf, outcome, testFigures, judgeAnswer};
+ghost use Rattle.standard.specs.Station.{Judgeable, Bounded, SaidBounded, withheldBy, judgementOf, outcome, testFigures, judged, judgeAnswer};
 ghost use Rattle.standard.specs.Runs.{Call, lastAccepted, stationAfter, freshStation};
 
 // All that a judgement finds, in grid units, with the standard that it goes by.
@@ -81,7 +81,7 @@ fn is_withheld(formula: Formula, colour: GridColour) -> bool
 }
 
 // The sheet, the names and the verdict: the semi-axes are worked out anew from the standard.
-pub(crate) fn judgement_of(s: Standard, t: GridColour) -> Judgement
+pub fn judgement_of(s: Standard, t: GridColour) -> Judgement
     requires { ⌜ Judgeable s t ⌝ }
     ensures { λ r. ⌜ r ≡ judgementOf s t ⌝ }
 {
@@ -151,6 +151,41 @@ fn test_figures(j: Judgement) -> TestFigures
     }
 }
 
+// The answer of what a call comes to.
+pub fn judged_of(o: Outcome) -> Judged
+    requires { ⌜ SaidBounded o ⌝ }
+    ensures { λ r. ⌜ r ≡ judged o ⌝ }
+{
+    match o {
+        Outcome::Refused(n) => Judged {
+            number: n,
+            figures: TestFigures {
+                L: 0.0,
+                a: 0.0,
+                b: 0.0,
+                C: 0.0,
+                DL: 0.0,
+                DC: 0.0,
+                DH: 0.0,
+                DE: 0.0,
+            },
+            names: Named::Nothing,
+        },
+        Outcome::Said(j) => {
+            let figures = test_figures(j);
+            let lightness = j.lightness;
+            let chroma = j.chroma;
+            let hue = j.hue;
+            let verdict = j.verdict;
+            Judged {
+                number: 0,
+                figures: figures,
+                names: Named::Said(lightness, chroma, hue, verdict),
+            }
+        }
+    }
+}
+
 impl Station {
     // Judges a test specimen; the station stays as it stands. After any run of calls the answer is that of a freshly started station that was
     // given the last accepted load alone.
@@ -158,33 +193,6 @@ impl Station {
         ensures { λ j. ⌜ j ≡ judgeAnswer self r ⌝ }
         ensures run { λ j. ⌜ ((cs : List Call) → self ≡ stationAfter Station.Empty cs → j ≡ judgeAnswer (freshStation (lastAccepted cs)) r) ⌝ }
     {
-        match outcome_of(self, r) {
-            Outcome::Refused(n) => Judged {
-                number: n,
-                figures: TestFigures {
-                    L: 0.0,
-                    a: 0.0,
-                    b: 0.0,
-                    C: 0.0,
-                    DL: 0.0,
-                    DC: 0.0,
-                    DH: 0.0,
-                    DE: 0.0,
-                },
-                names: Named::Nothing,
-            },
-            Outcome::Said(j) => {
-                let figures = test_figures(j);
-                let lightness = j.lightness;
-                let chroma = j.chroma;
-                let hue = j.hue;
-                let verdict = j.verdict;
-                Judged {
-                    number: 0,
-                    figures: figures,
-                    names: Named::Said(lightness, chroma, hue, verdict),
-                }
-            }
-        }
+        judged_of(outcome_of(self, r))
     }
 }

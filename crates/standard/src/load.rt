@@ -54,7 +54,7 @@ pub enum Acceptance {
 }
 
 // The first of two refusals, of which each may be 0 for none.
-pub(crate) fn first_of(n: u32, m: u32) -> u32
+pub fn first_of(n: u32, m: u32) -> u32
     ensures { λ r. ⌜ r ≡ first n m ⌝ }
 {
     if n == 0 { m } else { n }
@@ -74,7 +74,7 @@ fn numbers_refusal(formula: u32, white: u32) -> u32
 }
 
 // 3 for l, then for c, then 4, or 0.
-pub(crate) fn weights_refusal(l: u64, c: u64, tolerance: u64) -> u32
+pub fn weights_refusal(l: u64, c: u64, tolerance: u64) -> u32
     ensures { λ r. ⌜ r ≡ firstOf (weightFault l ∷ weightFault c ∷ toleranceFault tolerance ∷ []) ⌝ }
 {
     if !is_within(l, 500, 10000) {
@@ -90,7 +90,7 @@ pub(crate) fn weights_refusal(l: u64, c: u64, tolerance: u64) -> u32
 }
 
 // The colour of a reading that has no refusal.
-pub(crate) fn colour_in(p: Placed) -> GridColour
+pub fn colour_in(p: Placed) -> GridColour
     ensures { λ r. ⌜ r ≡ colourIn p ⌝ }
 {
     match p {

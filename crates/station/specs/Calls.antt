@@ -17,8 +17,8 @@ use Rattle.standard.specs.declared.judge.Outcome.{Outcome}
 use Rattle.standard.specs.declared.judge.Outcome.the-variants.{Refused, Said}
 use Rattle.standard.specs.Refusals.{first, refusal, fault}
 use Rattle.standard.specs.Station.{loadFaults, standardOf, judgeFaults, outcome, numberOf}
-use Rattle.standard.specs.Ticket.{ticketFaults, ticketOutcome}
 use Rattle.stored.specs.Record.{encode, decode}
+use Rattle.written.specs.Ticket.{ticketFaults, ticketOutcome}
 pub mod Laws
 pub mod One
 pub mod Every

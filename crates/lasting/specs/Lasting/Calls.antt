@@ -15,14 +15,14 @@ use Rattle.standard.specs.Refusals.{refusal, firstOf}
 use Rattle.standard.specs.Refusals.Laws.{first-none}
 use Rattle.standard.specs.Station.{colourIn, judgeFaults, judgementOf, outcome}
 use Rattle.standard.specs.Station.Laws.{judge-refusal-room}
-use Rattle.standard.specs.Ticket.{ticketFaults, ticketStandard, ticketOutcome}
-use Rattle.standard.specs.Ticket.Laws.{ticket-refusal-room, ticket-said}
 use Rattle.standard.specs.declared.held.Station.{Station}
 use Rattle.standard.specs.declared.held.Station.the-variants.{Empty, Holds}
 use Rattle.standard.specs.declared.judge.Judgement.{Judgement}
 use Rattle.standard.specs.declared.judge.Outcome.{Outcome}
 use Rattle.standard.specs.declared.judge.Outcome.the-variants.{Said}
 use Rattle.stored.specs.Record.{decode}
+use Rattle.written.specs.Ticket.{ticketFaults, ticketStandard, ticketOutcome}
+use Rattle.written.specs.Ticket.Laws.{ticket-refusal-room, ticket-said}
 use Rattle.station.specs.Calls.{writing, reportOf, withReport, judgeCall, ticketCall}
 use Rattle.lasting.specs.Lasting.{Lasts, said-verdict-lasts, ticket-verdict-lasts}
 

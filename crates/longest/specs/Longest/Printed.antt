@@ -11,9 +11,9 @@ use Rattle.text.specs.Put.{putAt}
 use Rattle.text.specs.Decimal.{widthIn}
 use Rattle.text.specs.Decimal.Laws.{last-digits-length, one-or-more, width-in-small, width-in-more}
 use Rattle.ticket.specs.Ticket.{ticketOf}
-use Rattle.standard.specs.Ticket.{ticketOutcome}
 use Rattle.standard.specs.declared.judge.Outcome.{Outcome}
 use Rattle.standard.specs.declared.judge.Outcome.the-variants.{Refused, Said}
+use Rattle.written.specs.Ticket.{ticketOutcome}
 use Rattle.printing.specs.Printed.{wholeText, refusalLine, lineOf, outcomeText, printedText, Prints}
 use Rattle.longest.specs.Longest.{Fits, ticket-fits}
 

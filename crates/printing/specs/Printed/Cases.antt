@@ -23,7 +23,7 @@ use Rattle.report.specs.Report.{settingLines, figureLines, wordLines, reportTex
 use Rattle.standard.specs.Standard.{within}
 use Rattle.standard.specs.Refusals.{firstOf, refusal}
 use Rattle.standard.specs.Station.{judgementOf}
-use Rattle.standard.specs.Ticket.{ticketFaults, ticketStandard, ticketOutcome}
+use Rattle.written.specs.Ticket.{ticketFaults, ticketStandard, ticketOutcome}
 use Rattle.printing.specs.Printed.{wholeText, refusalLine, printedText}
 
 abbrev printedFor : String → List ℕ

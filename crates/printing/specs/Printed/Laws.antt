@@ -26,8 +26,8 @@ use Rattle.report.specs.declared.report.Report.{Report}
 use Rattle.standard.specs.declared.judge.Judgement.{Judgement}
 use Rattle.standard.specs.declared.judge.Outcome.{Outcome}
 use Rattle.standard.specs.declared.judge.Outcome.the-variants.{Refused, Said}
-use Rattle.standard.specs.Ticket.{ticketOutcome}
-use Rattle.standard.specs.Ticket.Laws.{ticket-wrong}
+use Rattle.written.specs.Ticket.{ticketOutcome}
+use Rattle.written.specs.Ticket.Laws.{ticket-wrong}
 use Rattle.station.specs.Calls.{reportOf}
 use Rattle.printing.specs.Printed.{wholeText, whole, refusalLine, lineOf, printedText, fits, Prints}
 

@@ -17,9 +17,10 @@ use Rattle.standard.specs.declared.load.ReferenceFigures.{ReferenceFigur
 use Rattle.standard.specs.declared.load.Acceptance.the-variants.{Taken}
 use Rattle.standard.specs.declared.judge.Judgement.{Judgement}
 use Rattle.standard.specs.declared.judge.TestFigures.{TestFigures}
+use Rattle.standard.specs.declared.judge.Outcome.{Outcome}
 use Rattle.standard.specs.declared.judge.Outcome.the-variants.{Said}
 use Rattle.standard.specs.Standard.Laws.{ranges-of-valid}
-use Rattle.standard.specs.Station.{acceptance, referenceFigures, loadAnswer, outcome, testFigures, judgeAnswer}
+use Rattle.standard.specs.Station.{acceptance, referenceFigures, loadAnswer, outcome, testFigures, judged, judgeAnswer, Bounded}
 use Rattle.standard.specs.Station.Laws.{taken-valid, axes-small, said-bounded}
 
 -- x is exactly z / 2 ^ 20
@@ -65,10 +66,9 @@ pub record TestExact (j : Judgement) (F : TestFigures) : Type 0 where
   pub DH : Exact (j .comparison .differences .DH) (F .DH)
   pub DE : Exact (pos (j .comparison .differences .DE)) (F .DE)
 
-pub judge-exact : (station : Station) (r : Reading) {j : Judgement} → outcome station r ≡ Said j → TestExact j (judgeAnswer station r .figures)
-unfolding judgeAnswer testFigures
-judge-exact station r {j} e =
-    let h = said-bounded station r e in
+pub said-exact : {o : Outcome} (j : Judgement) → o ≡ Said j → Bounded j → TestExact j (judged o .figures)
+unfolding testFigures
+said-exact j e h =
     rw e
     (record {
       L = value-exact (j .test .L .0) (omega (arith, h .test .L));
@@ -80,3 +80,7 @@ judge-exact station r {j} e =
       DH = value-exact (j .comparison .differences .DH) (omega (arith, h .parts .H));
       DE = value-exact (pos (j .comparison .differences .DE)) (omega (arith, h .DE));
     })
+
+pub judge-exact : (station : Station) (r : Reading) {j : Judgement} → outcome station r ≡ Said j → TestExact j (judgeAnswer station r .figures)
+unfolding judgeAnswer
+judge-exact station r {j} e = said-exact j e (said-bounded station r j e)

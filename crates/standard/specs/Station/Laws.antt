@@ -41,7 +41,7 @@ use Rattle.standard.specs.Standard.Laws.{grid-on, ranges-of-valid}
 use Rattle.standard.specs.Refusals.{first, firstOf, refusal, fault, formulaFault, whiteFault, weightFault, toleranceFault}
 use Rattle.standard.specs.Refusals.Laws.{firstOf-append, firstOf-last, first-zero, firstOf-none, no-fault}
 use Rattle.standard.specs.Station.{colourIn, loadFaults, standardOf, acceptance, referenceFigures, loaded, loadAnswer}
-use Rattle.standard.specs.Station.{judgeFaults, judgementOf, said, outcome, numberOf, testFigures, judged, judgeAnswer, Judgeable, Bounded}
+use Rattle.standard.specs.Station.{judgeFaults, judgementOf, said, outcome, numberOf, testFigures, judged, judgeAnswer, Judgeable, Bounded, SaidBounded}
 
 -- a reading with no refusal is placed, on the grid
 pub placed-on-grid : (w : White) (r : Reading) (p : Placed) → p ≡ place w r → refusalOf p ≡ 0 → OnGrid (colourIn p)
@@ -200,9 +200,9 @@ module _ (s : Standard) (r : Reading) where
     judgeable z = judgeable-at s h (placed-on-grid (s .white) r p e z)
 
 -- what is said lies within the sheet's bounds
-bounded : (s : Standard) (T : GridColour) → Judgeable s T → Bounded (judgementOf s T)
+pub judgement-bounded : (s : Standard) (T : GridColour) → Judgeable s T → Bounded (judgementOf s T)
 unfolding judgementOf comparison sheet differences
-bounded s T h =
+judgement-bounded s T h =
     let g = h .range in
     let axes = axes-of-grid (s .formula) (g .reference) in
     record {
@@ -216,16 +216,16 @@ empty-says-nothing : (r : Reading) {j : Judgement} → outcome Empty r ≡ O.Sai
 unfolding outcome refusal judgeFaults firstOf
 empty-says-nothing r e = let no : _≡_ {A = ℕ} 0 1 = cc in omega arith
 
-pub said-bounded : (station : Station) (r : Reading) {j : Judgement} → outcome station r ≡ O.Said j → Bounded j
-said-bounded Empty r e = absurd (empty-says-nothing r e)
-said-bounded (Holds s) r {j} e = go (valid s) refl (eqb (refusalOf (place (s .white) r)) 0) refl
+pub said-bounded : (station : Station) (r : Reading) → SaidBounded (outcome station r)
+said-bounded Empty r j e = absurd (empty-says-nothing r e)
+said-bounded (Holds s) r j e = go (valid s) refl (eqb (refusalOf (place (s .white) r)) 0) refl
   where
     go : (v : Bool) → valid s ≡ v → (b : Bool) → eqb (refusalOf (place (s .white) r)) 0 ≡ b → Bounded j
     go false h b z = let no : _≡_ {A = ℕ} 0 1 = cc (outcome-invalid s r h) in absurd (omega arith)
     go true h true z =
         let none = eqb-true _ 0 z in
         let same : judgementOf s (colourIn (place (s .white) r)) ≡ j = cc (outcome-said s r h refl none) in
-        subst (λ (k : Judgement). Bounded k) same (bounded s _ (judgeable s r h refl none))
+        subst (λ (k : Judgement). Bounded k) same (judgement-bounded s _ (judgeable s r h refl none))
     go true h false z = let no : _≡_ {A = ℕ} 0 1 = cc (outcome-refused s r h refl (eqb-false _ 0 z)) in absurd (omega arith)
 
 -- a lent room's fault comes last
@@ -247,15 +247,17 @@ unfolding outcome refusal judgeFaults firstOf
 outcome-number Empty r = refl
 outcome-number (Holds s) r = number-of-outcome _ (said (Holds s) r) (λ none. refl)
 
--- each way out of a judgement
-module _ (station : Station) (r : Reading) {o : Outcome} (e : o ≡ outcome station r) where
-  pub judge-refused : {n : ℕ} → o ≡ O.Refused n → judged (O.Refused n) ≡ judgeAnswer station r
-  unfolding judgeAnswer
-  judge-refused h = ap judged (sym h ∙ e)
+-- each way out of the answer of what a call comes to
+module _ {o : Outcome} where
+  pub judged-refused : {n : ℕ} → o ≡ O.Refused n → judged (O.Refused n) ≡ judged o
+  judged-refused h = ap judged (sym h)
 
-  pub judge-said :
+  pub judged-said :
       {j : Judgement} {F : TestFigures} → o ≡ O.Said j → F ≡ testFigures j →
-      _≡_ {A = Judged} (record { number = 0; figures = F; names = N.Said (j .lightness) (j .chroma) (j .hue) (j .verdict) }) (judgeAnswer station r)
-  unfolding judgeAnswer
-  judge-said {j} h f =
-      (λ i. record { number = 0; figures = f i; names = N.Said (j .lightness) (j .chroma) (j .hue) (j .verdict) }) ∙ ap judged (sym h ∙ e)
+      _≡_ {A = Judged} (record { number = 0; figures = F; names = N.Said (j .lightness) (j .chroma) (j .hue) (j .verdict) }) (judged o)
+  judged-said {j} h f =
+      (λ i. record { number = 0; figures = f i; names = N.Said (j .lightness) (j .chroma) (j .hue) (j .verdict) }) ∙ ap judged (sym h)
+
+pub judge-is : (station : Station) (r : Reading) {o : Outcome} {j : Judged} → o ≡ outcome station r → j ≡ judged o → j ≡ judgeAnswer station r
+unfolding judgeAnswer
+judge-is station r e h = h ∙ ap judged e

@@ -25,10 +25,10 @@ use Rattle.standard.specs.Refusals.{first, refusal, fault}
 use Rattle.standard.specs.Refusals.Laws.{first-zero}
 use Rattle.standard.specs.Station.{loadFaults, standardOf, acceptance, outcome}
 use Rattle.standard.specs.Station.Laws.{load-refusal-room, taken-none, refused-number, judge-refusal-room, outcome-number}
-use Rattle.standard.specs.Ticket.{ticketOutcome}
-use Rattle.standard.specs.Ticket.Laws.{ticket-refusal-room, ticket-number}
 use Rattle.stored.specs.Record.{storeIn, decode}
 use Rattle.stored.specs.Record.Laws.{stores, stays}
+use Rattle.written.specs.Ticket.{ticketOutcome}
+use Rattle.written.specs.Ticket.Laws.{ticket-refusal-room, ticket-number}
 use Rattle.station.specs.Calls.{Answer, Gives, writing, loadCall, reportOf, roomFault, withReport, judgeCall, ticketCall, reported}
 
 -- ---- a load

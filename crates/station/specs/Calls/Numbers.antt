@@ -20,13 +20,13 @@ use Rattle.report.specs.Write.{hasRoom}
 use Rattle.standard.specs.Refusals.{Faults, first, firstOf, refusal, fault}
 use Rattle.standard.specs.Standard.{within, whiteAt, valid}
 use Rattle.standard.specs.Station.{loadFaults, judgeFaults, outcome}
-use Rattle.standard.specs.Ticket.{ticketFaults, ticketOutcome}
 use Rattle.standard.specs.declared.held.Station.{Station}
 use Rattle.standard.specs.declared.held.Station.the-variants.{Empty, Holds}
 use Rattle.standard.specs.declared.judge.Outcome.{Outcome}
 use Rattle.standard.specs.declared.judge.Outcome.the-variants.{Refused, Said}
 use Rattle.standard.specs.declared.load.Load.{Load}
 use Rattle.stored.specs.Record.{decode}
+use Rattle.written.specs.Ticket.{ticketFaults, ticketOutcome}
 use Rattle.station.specs.Calls.{reportOf, roomFault, loadCall, judgeCall, ticketCall}
 
 abbrev pub isOneOf : ℕ → List ℕ → Bool

@@ -1,15 +1,17 @@
 // A ticket: a load and a judgement from a fresh station. It neither reads nor changes a loaded standard.
-use crate::held::Standard;
-use crate::judge::Outcome;
-use crate::judge::judgement_of;
-use crate::load::colour_in;
-use crate::load::first_of;
-use crate::load::weights_refusal;
 use colour::placed::place_written;
+use standard::held::Standard;
+use standard::judge::Judged;
+use standard::judge::Outcome;
+use standard::judge::judged_of;
+use standard::judge::judgement_of;
+use standard::load::colour_in;
+use standard::load::first_of;
+use standard::load::weights_refusal;
 use ticket::lines::Parsed;
 use ticket::lines::Ticket;
 ghost use mathlib.Core.Path.{_≡_};
-ghost use Rattle.standard.specs.Ticket.{ticketOutcome};
+ghost use Rattle.written.specs.Ticket.{ticketOutcome, ticketAnswer};
 
 // What a ticket whose text is right comes to.
 fn judged_ticket(t: Ticket) -> Outcome
@@ -48,4 +50,11 @@ pub fn ticket_outcome(p: Parsed) -> Outcome
         Parsed::Right(t) => judged_ticket(t),
         Parsed::Wrong(_) => Outcome::Refused(7),
     }
+}
+
+// The same handed back as floats and names.
+pub fn judge_ticket(p: Parsed) -> Judged
+    ensures { λ j. ⌜ j ≡ ticketAnswer p ⌝ }
+{
+    judged_of(ticket_outcome(p))
 }

@@ -1,5 +1,6 @@
--- What callers use of a ticket: each way out of it, and that it is the judgement of its test specimen by its own standard. Assumes nothing.
-use mathlib.Core.Path.{_≡_, refl, sym, ap, _∙_}
+-- What callers use of a ticket: each way out of it, that it is the judgement of its test specimen by its own standard, and that what it says lies
+-- within the sheet's bounds. Assumes nothing.
+use mathlib.Core.Path.{_≡_, refl, sym, ap, _∙_, subst}
 use mathlib.Core.Bool.{Bool, true, false}
 use mathlib.Core.List.{List, [], _∷_}
 use Prim.Native.Nat.{ℕ}
@@ -17,17 +18,20 @@ use Rattle.colour.specs.declared.white.White.{White}
 use Rattle.ticket.specs.declared.lines.Ticket.{Ticket}
 use Rattle.ticket.specs.declared.lines.Parsed.{Parsed}
 use Rattle.ticket.specs.declared.lines.Parsed.the-variants.{Right, Wrong}
 use Rattle.standard.specs.declared.held.Station.the-variants.{Empty, Holds}
 use Rattle.standard.specs.declared.load.Load.{Load}
 use Rattle.standard.specs.declared.load.Acceptance.the-variants.{Taken}
+use Rattle.standard.specs.declared.judge.Judgement.{Judgement}
+use Rattle.standard.specs.declared.judge.Judged.{Judged}
+use Rattle.standard.specs.declared.judge.Outcome.{Outcome}
 use Rattle.standard.specs.declared.judge.Outcome.the-variants.{Refused, Said}
 use Rattle.standard.specs.Standard.{within, onGrid, valid}
 use Rattle.standard.specs.Standard.Laws.{within-in, grid-on, ranges-of-valid}
 use Rattle.standard.specs.Refusals.{first, firstOf, refusal, weightFault, toleranceFault}
 use Rattle.standard.specs.Refusals.Laws.{firstOf-append, firstOf-last, firstOf-nothing, firstOf-none, firstOf-no-fault, first-none, first-zero, no-fault}
-use Rattle.standard.specs.Station.{colourIn, acceptance, loadAnswer, judgementOf, outcome, numberOf, Judgeable}
-use Rattle.standard.specs.Station.Laws.{taken-valid, judgeable-at, outcome-said, outcome-refused, number-of-outcome}
-use Rattle.standard.specs.Ticket.{ticketFaults, ticketStandard, ticketSaid, ticketOutcome}
+use Rattle.standard.specs.Station.{colourIn, acceptance, loadAnswer, judgementOf, outcome, numberOf, judged, Judgeable, Bounded, SaidBounded}
+use Rattle.standard.specs.Station.Laws.{taken-valid, judgeable-at, judgement-bounded, outcome-said, outcome-refused, number-of-outcome}
+use Rattle.written.specs.Ticket.{ticketFaults, ticketStandard, ticketSaid, ticketOutcome, ticketAnswer}
 
 -- a written reading with no refusal is placed, on the grid
 written-on-grid : (w : White) (r : Written) (p : Placed) → p ≡ placeWritten w r → refusalOf p ≡ 0 → OnGrid (colourIn p)
@@ -142,6 +146,22 @@ ticket-is-judgement t placed x taken r same = rw taken (go (eqb (refusalOf (plac
 pub ticket-wrong : (line : ℕ) → ticketOutcome (Wrong line) ≡ Refused 7
 unfolding ticketOutcome refusal ticketFaults firstOf
 ticket-wrong line = refl
+
+-- what is said of a ticket lies within the sheet's bounds
+pub ticket-bounded : (p : Parsed) → SaidBounded (ticketOutcome p)
+ticket-bounded (Wrong line) j e = let no : _≡_ {A = ℕ} 0 1 = cc (ticket-wrong line) in absurd (omega arith)
+ticket-bounded (Right t) j e = go (eqb (refusal (ticketFaults 0 (Right t))) 0) refl
+  where
+    go : (b : Bool) → eqb (refusal (ticketFaults 0 (Right t))) 0 ≡ b → Bounded j
+    go true z =
+        let none = eqb-true _ 0 z in
+        let same : judgementOf (ticketStandard t) (colourIn (placeWritten (t .white) (t .test))) ≡ j = cc (ticket-said t refl none) in
+        subst (λ (k : Judgement). Bounded k) same (judgement-bounded (ticketStandard t) _ (ticket-judgeable t none))
+    go false z = let no : _≡_ {A = ℕ} 0 1 = cc (ticket-refused t refl (eqb-false _ 0 z)) in absurd (omega arith)
+
+pub ticket-is : (p : Parsed) {o : Outcome} {j : Judged} → o ≡ ticketOutcome p → j ≡ judged o → j ≡ ticketAnswer p
+unfolding ticketAnswer
+ticket-is p e h = h ∙ ap judged e
 
 -- 01's number of what a ticket comes to is that of its first fault
 pub ticket-number : (p : Parsed) → numberOf (ticketOutcome p) ≡ refusal (ticketFaults 0 p)

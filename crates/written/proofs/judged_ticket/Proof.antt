@@ -8,15 +8,15 @@ use Rattle.colour.specs.declared.conversion.GridColour.{GridColour}
 use Rattle.colour.specs.declared.placed.Placed.{Placed}
 use Rattle.ticket.specs.declared.lines.Ticket.{Ticket}
 use Rattle.ticket.specs.declared.lines.Parsed.the-variants.{Right}
 use Rattle.standard.specs.declared.held.Standard.{Standard}
 use Rattle.standard.specs.declared.judge.Judgement.{Judgement}
 use Rattle.standard.specs.declared.judge.Outcome.the-variants.{Said}
 use Rattle.standard.specs.Refusals.{first, firstOf, refusal, weightFault, toleranceFault}
 use Rattle.standard.specs.Station.{colourIn, judgementOf, Judgeable}
-use Rattle.standard.specs.Ticket.{ticketFaults, ticketStandard, ticketOutcome}
-use Rattle.standard.specs.Ticket.Laws.{ticket-refusal, ticket-refused, ticket-said, ticket-judgeable}
-use Rattle.standard.proofs.written.judged_ticket.Statement.{statement}
-use Rattle.standard.proofs.written.judged_ticket.Tie as tie
+use Rattle.written.specs.Ticket.{ticketFaults, ticketStandard, ticketOutcome}
+use Rattle.written.specs.Ticket.Laws.{ticket-refusal, ticket-refused, ticket-said, ticket-judgeable}
+use Rattle.written.proofs.judged_ticket.Statement.{statement}
+use Rattle.written.proofs.judged_ticket.Tie as tie
 
 module _ (t : Ticket) {p q : Placed} (hp : p ≡ placeWritten (t .white) (t .reference)) (hq : q ≡ placeWritten (t .white) (t .test)) where
   -- the refusal from its parts

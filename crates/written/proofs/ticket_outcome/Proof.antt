@@ -1,10 +1,10 @@
 -- `written::ticket_outcome` meets its contract: 7 for a wrong text, else the ticket's outcome. Assumes nothing.
 use mathlib.Core.Path.{sym, ap, _∙_}
 use borrow.Author.Needs.{needs}
-use Rattle.standard.specs.Ticket.{ticketOutcome}
-use Rattle.standard.specs.Ticket.Laws.{ticket-wrong}
-use Rattle.standard.proofs.written.ticket_outcome.Statement.{statement}
-use Rattle.standard.proofs.written.ticket_outcome.Tie as tie
+use Rattle.written.specs.Ticket.{ticketOutcome}
+use Rattle.written.specs.Ticket.Laws.{ticket-wrong}
+use Rattle.written.proofs.ticket_outcome.Statement.{statement}
+use Rattle.written.proofs.ticket_outcome.Tie as tie
 
 right : tie.Need-returns
 right c = let at-ticket = c .before .before in c .judged-ticket .ensures ∙ sym (ap ticketOutcome (at-ticket .p .given .1))

@@ -6,12 +6,15 @@ use Rattle.colour.specs.Placed.{placeWritten, refusalOf}
 use Rattle.ticket.specs.declared.lines.Ticket.{Ticket}
 use Rattle.ticket.specs.declared.lines.Parsed.{Parsed}
 use Rattle.ticket.specs.declared.lines.Parsed.the-variants.{Right, Wrong}
 use Rattle.standard.specs.declared.held.Standard.{Standard}
+use Rattle.standard.specs.declared.judge.Judged.{Judged}
 use Rattle.standard.specs.declared.judge.Outcome.{Outcome}
 use Rattle.standard.specs.declared.judge.Outcome.the-variants.{Refused, Said}
 use Rattle.standard.specs.Refusals.{Faults, refusal, weightFault, toleranceFault}
-use Rattle.standard.specs.Station.{colourIn, judgementOf}
+use Rattle.standard.specs.Station.{colourIn, judgementOf, judged}
 pub mod Laws
+pub mod One
+pub mod Exact
 
 -- its faults, with that of the lent room: a text that is wrong brings nothing to find another in, and names no formula or white but those there are
 unfoldable pub ticketFaults : (room : ℕ) → Parsed → Faults
@@ -60,3 +63,7 @@ unfoldable pub ticketOutcome : Parsed → Outcome
 ticketOutcome p =
     let n : ℕ = refusal (ticketFaults 0 p) in
     cond (eqb n 0) (ticketSaid p) (Refused n)
+
+-- the test specimen's figures, the names and the verdict, as a judgement hands them back
+unfoldable pub ticketAnswer : Parsed → Judged
+ticketAnswer p = judged (ticketOutcome p)
