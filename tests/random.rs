@@ -1,5 +1,8 @@
 //! Numbers for the cases of the programs beside this file.
 
+// Every program takes the part that it needs, and none takes all.
+#![allow(dead_code)]
+
 /// Steele, Lea and Flood's splitmix64. The seed is fixed, so every run has the same cases.
 pub struct Random(pub u64);
 
@@ -18,5 +21,18 @@ impl Random {
     /// A number with exactly that many binary digits, from 1 to 64.
     pub fn of_width(&mut self, width: u32) -> u64 {
         (self.next() | 1 << 63) >> (64 - width)
+    }
+
+    pub fn pick<T: Copy>(&mut self, list: &[T]) -> T {
+        list[self.below(list.len() as u64) as usize]
+    }
+
+    pub fn one_in(&mut self, count: u64) -> bool {
+        self.below(count) == 0
+    }
+
+    /// From -most to most.
+    pub fn within(&mut self, most: i64) -> i64 {
+        self.below(2 * most as u64 + 1) as i64 - most
     }
 }

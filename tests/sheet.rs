@@ -229,15 +229,6 @@ impl Seen {
 // -------------------------------------------------------------------------------------------------
 
 impl Random {
-    fn pick<T: Copy>(&mut self, list: &[T]) -> T {
-        list[self.below(list.len() as u64) as usize]
-    }
-
-    /// From -most to most.
-    fn within(&mut self, most: i64) -> i64 {
-        self.below(2 * most as u64 + 1) as i64 - most
-    }
-
     fn with_sign(&mut self, magnitude: i64) -> i64 {
         if self.next() & SIGN == 0 {
             magnitude

@@ -505,19 +505,6 @@ impl Seen {
 // -------------------------------------------------------------------------------------------------
 
 impl Random {
-    fn pick<T: Copy>(&mut self, list: &[T]) -> T {
-        list[self.below(list.len() as u64) as usize]
-    }
-
-    fn one_in(&mut self, count: u64) -> bool {
-        self.below(count) == 0
-    }
-
-    /// From -most to most.
-    fn within(&mut self, most: i64) -> i64 {
-        self.below(2 * most as u64 + 1) as i64 - most
-    }
-
     /// From 0 to 1, for floats that need not be exact.
     fn part(&mut self) -> f64 {
         self.below(1 << 53) as f64 / (1_u64 << 53) as f64
