@@ -3,5 +3,6 @@ pub mod axes;
 pub mod difference;
 pub mod formula;
 pub mod products;
+pub mod settings;
 pub mod shift;
 pub mod verdict;
