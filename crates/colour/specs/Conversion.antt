@@ -1,16 +1,19 @@
 -- 01-scope.md, "From X, Y, Z to the grid", at n binary places: 2 ^ n stands for 2 ^ 20 and 2 ^ 3n for 2 ^ 60, and n is 20 in the program.
 -- X, Y, Z and the white are in millionths; what comes out is in units of 2 ^ -n. The cut and the constants below it are an edition's.
 -- Definitions only: `Conversion/Laws.antt` has what callers go by. Assumes nothing.
-use mathlib.Core.Bool.{Bool, cond}
+use mathlib.Core.Bool.{Bool, cond, _&&_}
 use Prim.Native.Nat.{ℕ, _+_, _-_, _*_, _/_, _^_}
 use lib.Dec.{ltb}
 use lib.IntN.{ℤ, pos, _-ℤ_}
 use Rattle.rounding.specs.Root.{rootOf}
 use Rattle.rounding.specs.Signed.{∣_∣, _·_}
+use Rattle.reading.specs.Reading.{rangeOf, isWithin}
+use Rattle.reading.specs.declared.quantity.Quantity.the-variants.{Lightness, Opponent}
 use Rattle.colour.specs.declared.white.TristimulusValues.{TristimulusValues}
 use Rattle.colour.specs.declared.conversion.GridColour.{GridColour}
 pub mod Laws
 pub mod Ranges
+pub mod Places
 pub mod Cases
 
 -- a colour in units of 2 ^ -n
@@ -59,7 +62,7 @@ f n e x w = cond (aboveCut e x w) (fHigh n x w) (fLow n e x w)
 -- L* = 116 fy - 16 above the cut; otherwise light Y/Yn, rounded down once
 unfoldable pub lightness : (n : ℕ) → Edition → (Y Yn : ℕ) → ℕ
 lightness n e Y Yn =
-    cond (aboveCut e Y Yn) (116 * fHigh n Y Yn - 16 * 2 ^ n) (e .light .over * Y * 2 ^ n / (e .light .under * Yn))
+    cond (aboveCut e Y Yn) (116 * f n e Y Yn - 16 * 2 ^ n) (e .light .over * Y * 2 ^ n / (e .light .under * Yn))
 
 -- a* = 500 (fx - fy), b* = 200 (fy - fz)
 unfoldable pub convert : (n : ℕ) → Edition → (white c : TristimulusValues) → Lab
@@ -70,6 +73,10 @@ convert n e white c =
     record { L = lightness n e (c .Y) (white .Y); a = 500 · (fx -ℤ fy); b = 200 · (fy -ℤ fz) }
 
 -- ---- the grid is the unit of 2 ^ -20
+
+-- L*, a* and b* lie in their ranges
+unfoldable pub onGrid : GridColour → Bool
+onGrid c = isWithin (rangeOf Lightness) (c .L .0) && isWithin (rangeOf Opponent) (c .a .0) && isWithin (rangeOf Opponent) (c .b .0)
 
 -- at 20 places a colour is one of the grid
 abbrev pub gridColour : Lab → GridColour

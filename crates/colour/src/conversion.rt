@@ -3,18 +3,33 @@ use crate::white::TristimulusValues;
 use reading::grid::Grid;
 use rounding::fraction::fraction;
 use rounding::roots::cube_root;
-use rounding::signed::difference;
+use rounding::signed::less;
 use rounding::signed::product;
 ghost use mathlib.Core.Path.{_≡_};
 ghost use lib.IntN.{pos, _-ℤ_, _*ℤ_};
-ghost use Rattle.colour.specs.Conversion.{bs6923, aboveCut, fHigh, fLow, f, lightness, convert, gridColour};
-ghost use Rattle.colour.specs.Conversion.Ranges.{Against, Measured, Opposed};
+ghost use Rattle.colour.specs.Conversion.{bs6923, aboveCut, fHigh, fLow, f, lightness, convert, gridColour, onGrid};
+ghost use Rattle.colour.specs.Conversion.Ranges.{Against, Lit, Measured, Opposed};
 
-// A colour on the grid.
+// A colour in units of the grid.
 pub struct GridColour {
     pub L: Grid,
     pub a: Grid,
     pub b: Grid,
+}
+
+impl GridColour {
+    // Whether L*, a* and b* lie in their ranges.
+    pub fn is_on_grid(self) -> bool
+        ensures { λ r. ⌜ r ≡ onGrid self ⌝ }
+    {
+        if !self.L.is_lightness() {
+            return false;
+        }
+        if !self.a.is_opponent() {
+            return false;
+        }
+        self.b.is_opponent()
+    }
 }
 
 // Whether x / w is above the cut.
@@ -54,13 +69,13 @@ fn f_of(x: u64, w: u64) -> u64
     f_low(x, w)
 }
 
-// L*.
-fn lightness_of(y: u64, w: u64) -> u64
-    requires { ⌜ Against y w ⌝ }
+// L*, where fy is f of y.
+fn lightness_of(y: u64, w: u64, fy: u64) -> u64
+    requires { ⌜ Lit y w fy ⌝ }
     ensures { λ r. ⌜ r ≡ lightness 20 bs6923 y w ⌝ }
 {
     if is_above_cut(y, w) {
-        return 116 * f_high(y, w) - 16777216;
+        return 116 * fy - 16 * Grid::UNITS_IN_ONE;
     }
     fraction(9033 * y, 10 * w, 20)
 }
@@ -70,18 +85,18 @@ fn opponent_of(k: i64, p: u64, q: u64) -> i64
     requires { ⌜ Opposed k p q ⌝ }
     ensures { λ r. ⌜ r ≡ k *ℤ (pos p -ℤ pos q) ⌝ }
 {
-    product(k, difference(p as i64, q as i64))
+    product(k, less(p as i64, q as i64))
 }
 
 // X, Y, Z against a white, on the grid.
-pub fn grid_colour(c: TristimulusValues, white: TristimulusValues) -> GridColour
+pub(crate) fn grid_colour(c: TristimulusValues, white: TristimulusValues) -> GridColour
     requires { ⌜ Measured c white ⌝ }
     ensures { λ r. ⌜ r ≡ gridColour (convert 20 bs6923 white c) ⌝ }
 {
     let fx = f_of(c.X, white.X);
     let fy = f_of(c.Y, white.Y);
     let fz = f_of(c.Z, white.Z);
-    let l = lightness_of(c.Y, white.Y);
+    let l = lightness_of(c.Y, white.Y, fy);
     GridColour {
         L: Grid(l as i64),
         a: Grid(opponent_of(500, fx, fy)),

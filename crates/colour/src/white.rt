@@ -3,7 +3,7 @@ ghost use mathlib.Core.Path.{_≡_};
 ghost use Rattle.colour.specs.White.{whiteOf, numberOfWhite, whiteNumbered};
 ghost use Rattle.colour.specs.declared.white.White.{White};
 
-// TristimulusValues values, of a specimen or of a white, in millionths.
+// Tristimulus values, of a specimen or of a white, in millionths.
 pub struct TristimulusValues {
     pub X: u64,
     pub Y: u64,

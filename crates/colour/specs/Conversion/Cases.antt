@@ -5,7 +5,7 @@ use lib.IntN.{pos}
 use Rattle.rounding.specs.Root.{rootOf}
 use Rattle.colour.specs.declared.white.White.the-variants.{D65Ten}
 use Rattle.colour.specs.White.{whiteOf}
-use Rattle.colour.specs.Conversion.{Lab, bs6923, aboveCut, fHigh, fLow, f, lightness, convert}
+use Rattle.colour.specs.Conversion.{bs6923, aboveCut, fHigh, fLow, f, lightness, convert}
 
 pub record ConversionCases : Type 0 where
   -- D65/10, X Y Z = the white

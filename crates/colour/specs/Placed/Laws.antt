@@ -1,186 +1,147 @@
--- What callers use of placing: each way out of it, that every colour that is placed lies on the grid, and that a decimal is always finite. Assumes nothing.
-use mathlib.Core.Path.{_≡_, refl, ap, subst}
-use mathlib.Core.Bool.{Bool, true, false, _||_, cond}
-use Prim.Native.Nat.{ℕ, _*_, _^_, _≤_, _<_, zero-le}
+-- What callers use of placing: that every colour that is placed lies on the grid, and which numbers refuse a reading. Assumes nothing.
+use mathlib.Core.Path.{_≡_, refl, sym, ap, subst, _∙_}
+use mathlib.Core.Bool.{Bool, true, false, _&&_, _||_, cond}
+use mathlib.Core.Logic.{_⊎_, inl, inr}
+use Prim.Native.Nat.{ℕ, _*_, _^_, _≤_, zero-le}
 use native.Mathlib.Omega.{arith}
-use borrow.Author.Tests.{ltb-false, lt-ltb, le-ltb, leb-true, leb-false}
-use lib.Dec.{leb, ltb}
-use lib.IntN.{ℤ, pos}
-use lib.Ieee.{Float}
+use borrow.Author.Tests.{le-ltb, leb-true, leb-false}
+use lib.Dec.{leb}
+use lib.IntN.{ℤ}
 use Rattle.rounding.specs.Signed.{∣_∣, minus}
-use Rattle.reading.specs.Reading.{rangeOf, limit, Within, floatUnits, decimalUnits}
-use Rattle.reading.specs.Reading.Laws.{float-units-within, decimal-units-in, decimal-units-out, decimal-units-within, abs-le-of-within, not-minus-of-within}
+use Rattle.reading.specs.Reading.{rangeOf, limit, isWithin, floatUnits, decimalUnits}
+use Rattle.reading.specs.Reading.Laws.{Within, float-units-within, decimal-units-in, decimal-units-out, decimal-units-within, abs-le-of-within, not-minus-of-within, opponent-le}
 use Rattle.reading.specs.declared.decimal.Decimal.{Decimal}
 use Rattle.reading.specs.declared.quantity.Quantity.{Quantity}
 use Rattle.reading.specs.declared.quantity.Quantity.the-variants.{Tristimulus, Lightness, Opponent}
 use Rattle.reading.specs.declared.quantity.Units.{Units}
-use Rattle.reading.specs.declared.quantity.Units.the-variants as U
+use Rattle.reading.specs.declared.quantity.Units.the-variants.{Of}
 use Rattle.colour.specs.declared.white.White.{White}
-use Rattle.colour.specs.declared.white.White.the-variants.{D65Ten, D65Two, CTen, CTwo}
-use Rattle.colour.specs.declared.white.TristimulusValues.{TristimulusValues}
 use Rattle.colour.specs.declared.conversion.GridColour.{GridColour}
 use Rattle.colour.specs.declared.placed.Reading.{Reading}
 use Rattle.colour.specs.declared.placed.Reading.the-variants as R
 use Rattle.colour.specs.declared.placed.Written.{Written}
 use Rattle.colour.specs.declared.placed.Written.the-variants as W
-use Rattle.colour.specs.declared.placed.Taken.{Taken}
-use Rattle.colour.specs.declared.placed.Taken.the-variants as T
 use Rattle.colour.specs.declared.placed.Placed.{Placed}
-use Rattle.colour.specs.declared.placed.Placed.the-variants.{At, NotFinite, OutOfRange, Beyond}
+use Rattle.colour.specs.declared.placed.Placed.the-variants.{At, Refused}
 use Rattle.colour.specs.White.{whiteOf}
-use Rattle.colour.specs.Conversion.{bs6923, lightness, convert, gridColour}
+use Rattle.colour.specs.Conversion.{bs6923, lightness, convert}
 use Rattle.colour.specs.Conversion.Laws.{lightness-le}
-use Rattle.colour.specs.Conversion.Ranges.{Against, Measured, OnGrid}
-use Rattle.colour.specs.Placed.{isNotFinite, isOutOfRange, numberOf, taken, accepted, placeXyz, placeLab, place, placeWritten}
-use Rattle.colour.specs.Placed.Ranges.{Millionths, XyzWithin}
-
--- ---- three readings together: the three ways out
-
-module _ (u v w : Units) where
-  pub taken-not-finite : (isNotFinite u || isNotFinite v || isNotFinite w) ≡ true → taken u v w ≡ T.NotFinite
-  unfolding taken
-  taken-not-finite h = rw h
-
-  pub taken-out-of-range :
-      (isNotFinite u || isNotFinite v || isNotFinite w) ≡ false →
-      (isOutOfRange u || isOutOfRange v || isOutOfRange w) ≡ true →
-      taken u v w ≡ T.OutOfRange
-  unfolding taken
-  taken-out-of-range h g = rw (h, g)
-
-  pub taken-all :
-      (isNotFinite u || isNotFinite v || isNotFinite w) ≡ false →
-      (isOutOfRange u || isOutOfRange v || isOutOfRange w) ≡ false →
-      taken u v w ≡ T.Of (numberOf u) (numberOf v) (numberOf w)
-  unfolding taken
-  taken-all h g = rw (h, g)
-
-  -- whatever numbers were taken are these
-  pub taken-numbers : (x y z : ℤ) → taken u v w ≡ T.Of x y z → (x ≡ numberOf u) × (y ≡ numberOf v) × (z ≡ numberOf w)
-  unfolding taken
-  taken-numbers x y z e = go (isNotFinite u || isNotFinite v || isNotFinite w) (isOutOfRange u || isOutOfRange v || isOutOfRange w) e
-    where
-      go : (p q : Bool) → cond p T.NotFinite (cond q T.OutOfRange (T.Of (numberOf u) (numberOf v) (numberOf w))) ≡ T.Of x y z → (x ≡ numberOf u) × (y ≡ numberOf v) × (z ≡ numberOf w)
-      go true q h = let no : _≡_ {A = ℕ} 0 1 = cc in absurd (omega arith)
-      go false true h = let no : _≡_ {A = ℕ} 0 1 = cc in absurd (omega arith)
-      go false false h = (cc, cc, cc)
-
--- ---- the numbers taken lie within their ranges, and a refused reading counts as 0
-
-number-within : (q : Quantity) (u : Units) → ((z : ℤ) → u ≡ U.Of z → Within (rangeOf q) z) → Within (rangeOf q) (numberOf u)
-number-within q (U.Of z) h = h z refl
-number-within q U.NotFinite h = record { size = zero-le }
-number-within q U.OutOfRange h = record { size = zero-le }
-
-pub float-number-within : (q : Quantity) (x : Float) → Within (rangeOf q) (numberOf (floatUnits q x))
-float-number-within q x = number-within q (floatUnits q x) (float-units-within q x)
-
-pub decimal-number-within : (q : Quantity) (d : Decimal) → Within (rangeOf q) (numberOf (decimalUnits q d))
-decimal-number-within q d = number-within q (decimalUnits q d) (decimal-units-within q d)
-
-pub taken-xyz-within :
-    (u v w : Units) →
-    Within (rangeOf Tristimulus) (numberOf u) →
-    Within (rangeOf Tristimulus) (numberOf v) →
-    Within (rangeOf Tristimulus) (numberOf w) →
-    XyzWithin (taken u v w)
-taken-xyz-within u v w hu hv hw = record { within = small }
-  where
-    small : (x y z : ℤ) → taken u v w ≡ T.Of x y z → Millionths x y z
-    small x y z e =
-        let n = taken-numbers u v w x y z e in
-        record {
-          X = rw (n .0) (abs-le-of-within Tristimulus _ hu);
-          Y = rw (n .1) (abs-le-of-within Tristimulus _ hv);
-          Z = rw (n .2) (abs-le-of-within Tristimulus _ hw);
-        }
-
--- ---- X, Y, Z up to 150 against each white
-
-against : (x : ℕ) {w : ℕ} → x ≤ 150000000 → 94000000 ≤ w → w ≤ 119000000 → Against x w
-against x h l m = record { value = h; low = l; high = m }
-
-pub measured : (w : White) {c : TristimulusValues} → c .X ≤ 150000000 → c .Y ≤ 150000000 → c .Z ≤ 150000000 → Measured c (whiteOf w)
-unfolding whiteOf
-measured D65Ten x y z = record { X = against _ x (omega arith) (omega arith); Y = against _ y (omega arith) (omega arith); Z = against _ z (omega arith) (omega arith) }
-measured D65Two x y z = record { X = against _ x (omega arith) (omega arith); Y = against _ y (omega arith) (omega arith); Z = against _ z (omega arith) (omega arith) }
-measured CTen x y z = record { X = against _ x (omega arith) (omega arith); Y = against _ y (omega arith) (omega arith); Z = against _ z (omega arith) (omega arith) }
-measured CTwo x y z = record { X = against _ x (omega arith) (omega arith); Y = against _ y (omega arith) (omega arith); Z = against _ z (omega arith) (omega arith) }
-
--- ---- a converted colour: its three ways out, by magnitudes compared with 256
-
-module _ (c : GridColour) where
-  pub accepted-beyond-a : leb ∣ c .a .0 ∣ (256 * 2 ^ 20) ≡ false → accepted c ≡ Beyond
-  unfolding accepted
-  accepted-beyond-a h = rw (lt-ltb (256 * 2 ^ 20) ∣ c .a .0 ∣ (leb-false _ _ h))
-
-  pub accepted-beyond-b : leb ∣ c .a .0 ∣ (256 * 2 ^ 20) ≡ true → leb ∣ c .b .0 ∣ (256 * 2 ^ 20) ≡ false → accepted c ≡ Beyond
-  unfolding accepted
-  accepted-beyond-b h g = rw (le-ltb (256 * 2 ^ 20) ∣ c .a .0 ∣ (leb-true _ _ h), lt-ltb (256 * 2 ^ 20) ∣ c .b .0 ∣ (leb-false _ _ g))
-
-  pub accepted-at : leb ∣ c .a .0 ∣ (256 * 2 ^ 20) ≡ true → leb ∣ c .b .0 ∣ (256 * 2 ^ 20) ≡ true → accepted c ≡ At c
-  unfolding accepted
-  accepted-at h g = rw (le-ltb (256 * 2 ^ 20) ∣ c .a .0 ∣ (leb-true _ _ h), le-ltb (256 * 2 ^ 20) ∣ c .b .0 ∣ (leb-true _ _ g))
+use Rattle.colour.specs.Conversion.Ranges.{Against, OnGrid}
+use Rattle.colour.specs.Placed.{isNotFinite, fault, take, accepted, converted, placeXyz, placeLab, takeXyz, takeLab, place, placeWritten}
+use Rattle.colour.specs.Placed.Ranges.{XyzWithin}
+use Rattle.colour.specs.Placed.Ways.{Takes, handed, refused, takes, measured}
 
 -- ---- every colour that is placed lies on the grid
 
 accepted-on-grid : (c d : GridColour) → minus (c .L .0) ≡ false → ∣ c .L .0 ∣ ≤ 120 * 2 ^ 20 → accepted c ≡ At d → OnGrid d
 unfolding accepted
-accepted-on-grid c d light small e = go (ltb (256 * 2 ^ 20) ∣ c .a .0 ∣) (ltb (256 * 2 ^ 20) ∣ c .b .0 ∣) refl refl e
+accepted-on-grid c d light small e = go (isWithin (rangeOf Opponent) (c .a .0)) (isWithin (rangeOf Opponent) (c .b .0)) refl refl e
   where
-    go : (p q : Bool) → ltb (256 * 2 ^ 20) ∣ c .a .0 ∣ ≡ p → ltb (256 * 2 ^ 20) ∣ c .b .0 ∣ ≡ q → cond (p || q) Beyond (At c) ≡ At d → OnGrid d
-    go true q a b h = let no : _≡_ {A = ℕ} 0 1 = cc in absurd (omega arith)
-    go false true a b h = let no : _≡_ {A = ℕ} 0 1 = cc in absurd (omega arith)
-    go false false a b h =
+    go : (p q : Bool) → isWithin (rangeOf Opponent) (c .a .0) ≡ p → isWithin (rangeOf Opponent) (c .b .0) ≡ q → cond (p && q) (At c) (Refused 8) ≡ At d → OnGrid d
+    go false q a b h = let no : _≡_ {A = ℕ} 0 1 = cc in absurd (omega arith)
+    go true false a b h = let no : _≡_ {A = ℕ} 0 1 = cc in absurd (omega arith)
+    go true true a b h =
         let same : c ≡ d = cc in
-        subst (λ (x : GridColour). OnGrid x) same (record { notBelow = light; L = small; a = ltb-false _ _ a; b = ltb-false _ _ b })
+        subst (λ (x : GridColour). OnGrid x) same (record { notBelow = light; L = small; a = opponent-le (c .a .0) a; b = opponent-le (c .b .0) b })
 
-place-xyz-on-grid : (w : White) (t : Taken) (d : GridColour) → XyzWithin t → placeXyz w t ≡ At d → OnGrid d
-unfolding placeXyz convert
-place-xyz-on-grid w (T.Of x y z) d h e =
-    let n = h .within x y z refl in
-    let Y : Against ∣ y ∣ (whiteOf w .Y) = measured w {c = record { X = ∣ x ∣; Y = ∣ y ∣; Z = ∣ z ∣ }} (n .X) (n .Y) (n .Z) .Y in
-    accepted-on-grid _ d (le-ltb (lightness 20 bs6923 ∣ y ∣ (whiteOf w .Y)) 0 zero-le) (lightness-le ∣ y ∣ (whiteOf w .Y) Y) e
-place-xyz-on-grid w T.NotFinite d h e = let no : _≡_ {A = ℕ} 0 1 = cc in absurd (omega arith)
-place-xyz-on-grid w T.OutOfRange d h e = let no : _≡_ {A = ℕ} 0 1 = cc in absurd (omega arith)
+-- whatever units give, a colour that was placed came of them
+placed-of-units :
+    (u v w : Units) (next : (x y z : ℤ) → Placed) (d : GridColour) →
+    ((x y z : ℤ) → u ≡ Of x → v ≡ Of y → w ≡ Of z → next x y z ≡ At d → OnGrid d) →
+    take u v w next ≡ At d → OnGrid d
+placed-of-units u v w next d each e = go (take u v w next) (takes u v w next) e
+  where
+    go : (p : Placed) → Takes u v w next p → p ≡ At d → OnGrid d
+    go p (handed x y z eu ev ew) h = each x y z eu ev ew h
+    go p refused h = let no : _≡_ {A = ℕ} 0 1 = cc in absurd (omega arith)
 
-module _ (u v w : Units) (hu : Within (rangeOf Lightness) (numberOf u)) (hv : Within (rangeOf Opponent) (numberOf v)) (hw : Within (rangeOf Opponent) (numberOf w)) where
-  taken-on-grid : (l a b : ℤ) → taken u v w ≡ T.Of l a b → OnGrid (record { L = record { 0 = l }; a = record { 0 = a }; b = record { 0 = b } })
-  taken-on-grid l a b e =
-      let n = taken-numbers u v w l a b e in
+-- floats and decimals alike, since both are read within their ranges
+module _ {A : Type 0} (units : Quantity → A → Units) (within : (q : Quantity) (x : A) (z : ℤ) → units q x ≡ Of z → Within (rangeOf q) z) where
+  pub xyz-within :
+      (x y z : A) {u v w : Units} → u ≡ units Tristimulus x → v ≡ units Tristimulus y → w ≡ units Tristimulus z → XyzWithin u v w
+  xyz-within x y z eu ev ew =
       record {
-        notBelow = rw (n .0) (not-minus-of-within (rangeOf Lightness) _ refl hu);
-        L = rw (n .0) (abs-le-of-within Lightness _ hu);
-        a = rw (n .1) (abs-le-of-within Opponent _ hv);
-        b = rw (n .2) (abs-le-of-within Opponent _ hw);
+        within = λ a b c ea eb ec.
+            record {
+              X = abs-le-of-within Tristimulus a (within Tristimulus x a (sym eu ∙ ea));
+              Y = abs-le-of-within Tristimulus b (within Tristimulus y b (sym ev ∙ eb));
+              Z = abs-le-of-within Tristimulus c (within Tristimulus z c (sym ew ∙ ec));
+            };
       }
 
-  place-lab-on-grid : (d : GridColour) → placeLab (taken u v w) ≡ At d → OnGrid d
-  unfolding placeLab
-  place-lab-on-grid d e = go (taken u v w) refl e
-    where
-      go : (t : Taken) → taken u v w ≡ t → placeLab t ≡ At d → OnGrid d
-      go (T.Of l a b) s h =
-          let same : _≡_ {A = GridColour} (record { L = record { 0 = l }; a = record { 0 = a }; b = record { 0 = b } }) d = cc in
-          subst (λ (x : GridColour). OnGrid x) same (taken-on-grid l a b s)
-      go T.NotFinite s h = let no : _≡_ {A = ℕ} 0 1 = cc in absurd (omega arith)
-      go T.OutOfRange s h = let no : _≡_ {A = ℕ} 0 1 = cc in absurd (omega arith)
+  take-xyz-on-grid : (w : White) (x y z : A) (d : GridColour) → takeXyz units w x y z ≡ At d → OnGrid d
+  unfolding convert
+  take-xyz-on-grid w x y z d =
+      placed-of-units _ _ _ (placeXyz w) d
+      (λ a b c ea eb ec e.
+      let m = xyz-within x y z refl refl refl .within a b c ea eb ec in
+      let Y : Against ∣ b ∣ (whiteOf w .Y) = measured w {c = record { X = ∣ a ∣; Y = ∣ b ∣; Z = ∣ c ∣ }} (m .X) (m .Y) (m .Z) .Y in
+      accepted-on-grid (converted w a b c) d (le-ltb (lightness 20 bs6923 ∣ b ∣ (whiteOf w .Y)) 0 zero-le) (lightness-le ∣ b ∣ (whiteOf w .Y) Y) e)
 
-pub place-on-grid : (w : White) (r : Reading) (d : GridColour) → place w r ≡ At d → OnGrid d
+  take-lab-on-grid : (l a b : A) (d : GridColour) → takeLab units l a b ≡ At d → OnGrid d
+  take-lab-on-grid l a b d =
+      placed-of-units _ _ _ placeLab d
+      (λ x y z ex ey ez e.
+      let same : _≡_ {A = GridColour} (record { L = record { 0 = x }; a = record { 0 = y }; b = record { 0 = z } }) d = cc in
+      subst (λ (c : GridColour). OnGrid c) same
+      (record {
+        notBelow = not-minus-of-within (rangeOf Lightness) x refl (within Lightness l x ex);
+        L = abs-le-of-within Lightness x (within Lightness l x ex);
+        a = abs-le-of-within Opponent y (within Opponent a y ey);
+        b = abs-le-of-within Opponent z (within Opponent b z ez);
+      }))
+
+pub place-on-grid : (w : White) (r : Reading) (c : GridColour) → place w r ≡ At c → OnGrid c
 unfolding place
-place-on-grid w (R.Xyz x y z) d e =
-    place-xyz-on-grid w _ d (taken-xyz-within _ _ _ (float-number-within Tristimulus x) (float-number-within Tristimulus y) (float-number-within Tristimulus z)) e
-place-on-grid w (R.Lab l a b) d e =
-    place-lab-on-grid _ _ _ (float-number-within Lightness l) (float-number-within Opponent a) (float-number-within Opponent b) d e
+place-on-grid w (R.Xyz x y z) c e = take-xyz-on-grid floatUnits float-units-within w x y z c e
+place-on-grid w (R.Lab l a b) c e = take-lab-on-grid floatUnits float-units-within l a b c e
 
-pub place-written-on-grid : (w : White) (r : Written) (d : GridColour) → placeWritten w r ≡ At d → OnGrid d
+pub written-on-grid : (w : White) (r : Written) (c : GridColour) → placeWritten w r ≡ At c → OnGrid c
 unfolding placeWritten
-place-written-on-grid w (W.Xyz x y z) d e =
-    place-xyz-on-grid w _ d (taken-xyz-within _ _ _ (decimal-number-within Tristimulus x) (decimal-number-within Tristimulus y) (decimal-number-within Tristimulus z)) e
-place-written-on-grid w (W.Lab l a b) d e =
-    place-lab-on-grid _ _ _ (decimal-number-within Lightness l) (decimal-number-within Opponent a) (decimal-number-within Opponent b) d e
+written-on-grid w (W.Xyz x y z) c e = take-xyz-on-grid decimalUnits decimal-units-within w x y z c e
+written-on-grid w (W.Lab l a b) c e = take-lab-on-grid decimalUnits decimal-units-within l a b c e
 
--- ---- a written reading is always finite
+-- ---- which numbers refuse a reading
+
+-- what has units is refused with 8, if at all
+xyz-refused : (w : White) {n : ℕ} (x y z : ℤ) → placeXyz w x y z ≡ Refused n → n ≡ 8
+unfolding accepted
+xyz-refused w {n} x y z = go (isWithin (rangeOf Opponent) (c .a .0) && isWithin (rangeOf Opponent) (c .b .0))
+  where
+    c : GridColour
+    c = converted w x y z
+
+    go : (b : Bool) → cond b (At c) (Refused 8) ≡ Refused n → n ≡ 8
+    go true e = let no : _≡_ {A = ℕ} 0 1 = cc in absurd (omega arith)
+    go false e = cc
+
+lab-refused : {n : ℕ} (l a b : ℤ) → placeLab l a b ≡ Refused n → n ≡ 8
+lab-refused l a b e = let no : _≡_ {A = ℕ} 0 1 = cc in absurd (omega arith)
+
+module _ (u v w : Units) (next : (x y z : ℤ) → Placed) {n : ℕ} (eight : (x y z : ℤ) → next x y z ≡ Refused n → n ≡ 8) where
+  refused-by : take u v w next ≡ Refused n → (n ≡ fault u v w) ⊎ (n ≡ 8)
+  refused-by e = go (take u v w next) (takes u v w next) e
+    where
+      go : (p : Placed) → Takes u v w next p → p ≡ Refused n → (n ≡ fault u v w) ⊎ (n ≡ 8)
+      go p (handed x y z eu ev ew) h = inr (eight x y z h)
+      go p refused h = inl cc
+
+  take-refused : take u v w next ≡ Refused n → (n ≡ 5) ⊎ ((n ≡ 6) ⊎ (n ≡ 8))
+  take-refused e = go (isNotFinite u || isNotFinite v || isNotFinite w) (refused-by e)
+    where
+      go : (b : Bool) → (n ≡ cond b 5 6) ⊎ (n ≡ 8) → (n ≡ 5) ⊎ ((n ≡ 6) ⊎ (n ≡ 8))
+      go true (inl h) = inl h
+      go false (inl h) = inr (inl h)
+      go true (inr h) = inr (inr h)
+      go false (inr h) = inr (inr h)
+
+  finite-refused : isNotFinite u ≡ false → isNotFinite v ≡ false → isNotFinite w ≡ false → take u v w next ≡ Refused n → (n ≡ 6) ⊎ (n ≡ 8)
+  finite-refused hu hv hw e = rw (hu, hv, hw) at (refused-by e)
+
+pub place-refused : (w : White) (r : Reading) {n : ℕ} → place w r ≡ Refused n → (n ≡ 5) ⊎ ((n ≡ 6) ⊎ (n ≡ 8))
+unfolding place
+place-refused w (R.Xyz x y z) e = take-refused _ _ _ (placeXyz w) (xyz-refused w) e
+place-refused w (R.Lab l a b) e = take-refused _ _ _ placeLab lab-refused e
 
 decimal-finite : (q : Quantity) (d : Decimal) → isNotFinite (decimalUnits q d) ≡ false
 decimal-finite q d = go (leb (d .millionths) (limit (rangeOf q) (d .below) * 1000000)) refl
@@ -189,38 +150,8 @@ decimal-finite q d = go (leb (d .millionths) (limit (rangeOf q) (d .below) * 100
     go true h = ap isNotFinite (decimal-units-in q d (leb-true _ _ h))
     go false h = ap isNotFinite (decimal-units-out q d (leb-false _ _ h))
 
-taken-finite : (u v w : Units) → isNotFinite u ≡ false → isNotFinite v ≡ false → isNotFinite w ≡ false → taken u v w ≡ T.NotFinite → ⊥
-taken-finite u v w hu hv hw e = go (isOutOfRange u || isOutOfRange v || isOutOfRange w) refl
-  where
-    finite : (isNotFinite u || isNotFinite v || isNotFinite w) ≡ false
-    finite = rw (hu, hv, hw)
-
-    go : (b : Bool) → (isOutOfRange u || isOutOfRange v || isOutOfRange w) ≡ b → ⊥
-    go true h = let no : _≡_ {A = ℕ} 0 1 = cc (taken-out-of-range u v w finite h) in omega arith
-    go false h = let no : _≡_ {A = ℕ} 0 1 = cc (taken-all u v w finite h) in omega arith
-
-accepted-finite : (c : GridColour) → accepted c ≡ NotFinite → ⊥
-unfolding accepted
-accepted-finite c = go (ltb (256 * 2 ^ 20) ∣ c .a .0 ∣ || ltb (256 * 2 ^ 20) ∣ c .b .0 ∣)
-  where
-    go : (b : Bool) → cond b Beyond (At c) ≡ NotFinite → ⊥
-    go true h = let no : _≡_ {A = ℕ} 0 1 = cc in omega arith
-    go false h = let no : _≡_ {A = ℕ} 0 1 = cc in omega arith
-
-taken-of-xyz : (w : White) (t : Taken) → placeXyz w t ≡ NotFinite → t ≡ T.NotFinite
-unfolding placeXyz
-taken-of-xyz w (T.Of x y z) e = absurd (accepted-finite _ e)
-taken-of-xyz w T.NotFinite e = refl
-taken-of-xyz w T.OutOfRange e = let no : _≡_ {A = ℕ} 0 1 = cc in absurd (omega arith)
-
-taken-of-lab : (t : Taken) → placeLab t ≡ NotFinite → t ≡ T.NotFinite
-unfolding placeLab
-taken-of-lab (T.Of l a b) e = let no : _≡_ {A = ℕ} 0 1 = cc in absurd (omega arith)
-taken-of-lab T.NotFinite e = refl
-taken-of-lab T.OutOfRange e = let no : _≡_ {A = ℕ} 0 1 = cc in absurd (omega arith)
-
 -- A DECIMAL IS NEVER NOT-A-NUMBER OR INFINITE: no written reading is refused with 5
-pub written-finite : (w : White) (r : Written) → placeWritten w r ≡ NotFinite → ⊥
+pub written-refused : (w : White) (r : Written) {n : ℕ} → placeWritten w r ≡ Refused n → (n ≡ 6) ⊎ (n ≡ 8)
 unfolding placeWritten
-written-finite w (W.Xyz x y z) e = taken-finite _ _ _ (decimal-finite _ x) (decimal-finite _ y) (decimal-finite _ z) (taken-of-xyz w _ e)
-written-finite w (W.Lab l a b) e = taken-finite _ _ _ (decimal-finite _ l) (decimal-finite _ a) (decimal-finite _ b) (taken-of-lab _ e)
+written-refused w (W.Xyz x y z) e = finite-refused _ _ _ (placeXyz w) (xyz-refused w) (decimal-finite _ x) (decimal-finite _ y) (decimal-finite _ z) e
+written-refused w (W.Lab l a b) e = finite-refused _ _ _ placeLab lab-refused (decimal-finite _ l) (decimal-finite _ a) (decimal-finite _ b) e

@@ -1,6 +1,6 @@
 -- `conversion::grid_colour` meets its contract: every f is below 2^21, so a*, b* and L* fit, and each is the definition's. Assumes nothing.
 use mathlib.Core.Path.{_≡_, _∙_}
-use Prim.Native.Nat.{ℕ, _^_, _≤_, _<_}
+use Prim.Native.Nat.{ℕ, _≤_, _<_}
 use native.Mathlib.Omega.{arith}
 use borrow.Author.Needs.{needs}
 use lib.IntN.{ℤ, pos, _-ℤ_, _*ℤ_}
@@ -39,26 +39,26 @@ module _ (c : tie.After-lightness-of) where
   abbrev at-x : tie.After-f-of
   at-x = at-y .before
 
-  x-lt : at-x .f-of .result < 1229364
-  x-lt = rw (at-x .f-of .ensures) (f-lt _ _ (at-x .before .pre .X))
-
-  y-lt : at-y .f-of2 .result < 1229364
-  y-lt = rw (at-y .f-of2 .ensures) (f-lt _ _ (at-x .before .pre .Y))
-
-  z-lt : at-z .f-of3 .result < 1229364
-  z-lt = rw (at-z .f-of3 .ensures) (f-lt _ _ (at-x .before .pre .Z))
+  every : (at-x .f-of .result < 1229364) × ((at-y .f-of2 .result < 1229364) × (at-z .f-of3 .result < 1229364))
+  every = (
+    rw (at-x .f-of .ensures) (f-lt _ _ (at-x .before .pre .X)),
+    (rw (at-y .f-of2 .ensures) (f-lt _ _ (at-x .before .pre .Y)), rw (at-z .f-of3 .ensures) (f-lt _ _ (at-x .before .pre .Z))),
+  )
 
   l-le : c .lightness-of .result ≤ 125829120
   l-le = rw (c .lightness-of .ensures) (lightness-le _ _ (at-x .before .pre .Y))
+
+lightness-requires : tie.Need-lightness-of-requires
+lightness-requires c κs = let at-y = c .before in record { reach = at-y .before .before .pre .Y; is-f = at-y .f-of2 .ensures }
 
 cast-t7 : tie.Need-cast-t7
 cast-t7 c = record { sfits = omega (arith, l-le c) }
 
 a-requires : tie.Need-opponent-of-requires
-a-requires c κs = record { times = omega arith; first = omega (arith, x-lt c); second = omega (arith, y-lt c) }
+a-requires c κs = record { times = omega arith; first = omega (arith, every c); second = omega (arith, every c) }
 
 b-requires : tie.Need-opponent-of-requires-2
-b-requires c κs = record { times = omega arith; first = omega (arith, y-lt (c .before)); second = omega (arith, z-lt (c .before)) }
+b-requires c κs = record { times = omega arith; first = omega (arith, every (c .before)); second = omega (arith, every (c .before)) }
 
 returns : tie.Need-returns
 returns c =
@@ -76,7 +76,7 @@ grid-colour-spec =
     (λ c κs. search needs)
     (λ c κs. search needs)
     (λ c κs. search needs)
-    (λ c κs. search needs)
+    lightness-requires
     cast-t7
     a-requires
     b-requires

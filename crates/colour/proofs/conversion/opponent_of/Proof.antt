@@ -1,6 +1,6 @@
--- `conversion::opponent_of` meets its contract: 500 times a difference below 2^21 fits. Assumes nothing.
+-- `conversion::opponent_of` meets its contract: 500 times one f less another fits. Assumes nothing.
 use mathlib.Core.Path.{_≡_, ap₂, _∙_}
-use Prim.Native.Nat.{ℕ, _+_, _*_, _^_, _≤_, _<_}
+use Prim.Native.Nat.{ℕ, _^_, _≤_, _<_}
 use native.Mathlib.Nat.{mul-le-mul}
 use native.Mathlib.Omega.{arith}
 use borrow.Author.Needs.{needs}
@@ -15,34 +15,34 @@ use Rattle.colour.proofs.conversion.opponent_of.Statement.{statement}
 use Rattle.colour.proofs.conversion.opponent_of.Tie as tie
 
 module _ {k : ℤ} {p q : ℕ} (h : Opposed k p q) where
-  difference-le : ∣ pos p -ℤ pos q ∣ ≤ 2 ^ 22
-  difference-le = omega (arith, abs-sub-le (pos p) (pos q))
+  less-le : ∣ pos p -ℤ pos q ∣ ≤ 2 ^ 22
+  less-le = omega (arith, abs-sub-le (pos p) (pos q))
 
   product-lt : ∣ k *ℤ (pos p -ℤ pos q) ∣ < 2 ^ 63
-  product-lt = rw abs-mul (omega (arith, mul-le-mul (h .times) difference-le))
+  product-lt = rw abs-mul (omega (arith, mul-le-mul (h .times) less-le))
 
-difference-is : (c : tie.After-difference) → c .difference .result ≡ pos (c .before .args .p) -ℤ pos (c .before .args .q)
-difference-is c =
+less-is : (c : tie.After-less) → c .less .result ≡ pos (c .before .args .p) -ℤ pos (c .before .args .q)
+less-is c =
     let p-is : toZ w64 (c .before .args .p) ≡ pos (c .before .args .p) = toZ-pos w64 (omega arith) in
     let q-is : toZ w64 (c .before .args .q) ≡ pos (c .before .args .q) = toZ-pos w64 (omega arith) in
-    c .difference .ensures ∙ ap₂ _-ℤ_ p-is q-is
+    c .less .ensures ∙ ap₂ _-ℤ_ p-is q-is
 
-difference-requires : tie.Need-difference-requires
-difference-requires c κs = rw (toZ-pos w64 {n = c .args .p} (omega arith), toZ-pos w64 {n = c .args .q} (omega arith)) (omega (arith, difference-le (c .pre)))
+less-requires : tie.Need-less-requires
+less-requires c κs = rw (toZ-pos w64 {n = c .args .p} (omega arith), toZ-pos w64 {n = c .args .q} (omega arith)) (omega (arith, less-le (c .pre)))
 
 product-requires : tie.Need-product-requires
 product-requires c κs =
-    let back : toZ w64 (ofZ w64 (c .difference .result)) ≡ c .difference .result = search needs in
-    rw (toZ-ofZ (c .before .fits .k), back, difference-is c) (product-lt (c .before .pre))
+    let back : toZ w64 (ofZ w64 (c .less .result)) ≡ c .less .result = search needs in
+    rw (toZ-ofZ (c .before .fits .k), back, less-is c) (product-lt (c .before .pre))
 
 returns : tie.Need-returns
 returns c =
-    let at-difference = c .before in
-    let back : toZ w64 (ofZ w64 (at-difference .difference .result)) ≡ at-difference .difference .result = search needs in
+    let at-less = c .before in
+    let back : toZ w64 (ofZ w64 (at-less .less .result)) ≡ at-less .less .result = search needs in
     let product-back : toZ w64 (ofZ w64 (c .product .result)) ≡ c .product .result = search needs in
-    product-back ∙ c .product .ensures ∙ ap₂ _*ℤ_ (toZ-ofZ (at-difference .before .fits .k)) (back ∙ difference-is at-difference)
+    product-back ∙ c .product .ensures ∙ ap₂ _*ℤ_ (toZ-ofZ (at-less .before .fits .k)) (back ∙ less-is at-less)
 
 pub opponent-of-spec : {M : Type 1} → statement M
 opponent-of-spec =
     tie.close
-    (tie.spec (λ c. search needs) (λ c. search needs) difference-requires product-requires returns)
+    (tie.spec (λ c. search needs) (λ c. search needs) less-requires product-requires returns)

@@ -1,4 +1,4 @@
--- `placed::converted` meets its contract: X, Y, Z up to 150 are in reach of every white. Assumes nothing.
+-- `placed::converted_colour` meets its contract: X, Y, Z up to 150 are in reach of every white. Assumes nothing.
 use mathlib.Core.Path.{_≡_}
 use Prim.Native.Nat.{ℕ}
 use borrow.Author.Needs.{needs}
@@ -11,18 +11,18 @@ use Rattle.colour.specs.declared.white.TristimulusValues.{TristimulusVal
 use Rattle.colour.specs.White.{whiteOf}
 use Rattle.colour.specs.Conversion.{bs6923, convert, gridColour}
 use Rattle.colour.specs.Conversion.Ranges.{Measured}
-use Rattle.colour.specs.Placed.{convertedXyz}
+use Rattle.colour.specs.Placed.{converted}
 use Rattle.colour.specs.Placed.Ranges.{Millionths}
-use Rattle.colour.specs.Placed.Laws.{measured}
-use Rattle.colour.proofs.placed.converted.Statement.{statement}
-use Rattle.colour.proofs.placed.converted.Tie as tie
+use Rattle.colour.specs.Placed.Ways.{measured}
+use Rattle.colour.proofs.placed.converted_colour.Statement.{statement}
+use Rattle.colour.proofs.placed.converted_colour.Tie as tie
 
 -- the conversion of three magnitudes X, Y, Z against the values v of a white w
 module _ (x y z : ℤ) (w : White) {X Y Z : ℕ} {v : TristimulusValues} (ex : X ≡ ∣ x ∣) (ey : Y ≡ ∣ y ∣) (ez : Z ≡ ∣ z ∣) (ev : v ≡ whiteOf w) where
   in-reach : Millionths x y z → Measured (record { X = X; Y = Y; Z = Z }) v
   in-reach h = rw (ex, ey, ez, ev) (measured w (h .X) (h .Y) (h .Z))
 
-  converted-is : {c : GridColour} → c ≡ gridColour (convert 20 bs6923 v (record { X = X; Y = Y; Z = Z })) → c ≡ convertedXyz w x y z
+  converted-is : {c : GridColour} → c ≡ gridColour (convert 20 bs6923 v (record { X = X; Y = Y; Z = Z })) → c ≡ converted w x y z
   converted-is ec = cc
 
 module _ (c : tie.After-tristimulus) where
@@ -55,8 +55,8 @@ returns c =
     let a = at-x w .before .args in
     converted-is (a .x) (a .y) (a .z) (a .white) (x-is w) (y-is w) (z-is w) (w .tristimulus .ensures) (c .grid-colour .ensures)
 
-pub converted-spec : {M : Type 1} → statement M
-converted-spec =
+pub converted-colour-spec : {M : Type 1} → statement M
+converted-colour-spec =
     tie.close
     (tie.spec
     (λ c κs. search needs)
