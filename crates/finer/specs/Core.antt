@@ -8,9 +8,9 @@ use Prim.Native.Nat.{ℕ, _+_, _-_, _*_, _≤_, _<_}
 use native.Mathlib.Nat.{mul-le-mul-right, mul-pos}
 use native.Mathlib.Decide.{decLe}
 use native.Mathlib.Omega.{arith}
-use Rattle.sheet.specs.Ranges.{Weight}
+use Rattle.sheet.specs.Settings.{Factor}
 use Rattle.finer.specs.Rounded.{LooseFraction, LooseRoot, le-of-mul-le, square-le, le-of-square-le}
-use Rattle.finer.specs.Loose.{unit, Data, Quantities, LooseDifference}
+use Rattle.finer.specs.Loose.{unit, Data, Quantities, LooseDifferences}
 use Rattle.finer.specs.Close.{Close}
 
 -- ---- DL
@@ -55,7 +55,7 @@ DC-le K N c d1 d2 SC1 SC2 DC1 DC2 low-c some-SC low-SC near ratio one two =
         let less : d2 ≤ d1 = omega arith in
         omega (arith, mul-le-mul-right d1 near, mul-le-mul-right d2 near, mul-le-mul-right K less)
 
--- 5.5; that the difference stops at 0 does no harm, as it still grows with D²
+-- 5.5; that D² - ΔC² stops at 0 does no harm, as it still grows with D²
 ΔH-square-le :
     (K D² d1 d2 H1 H2 : ℕ) →
     d1 ≤ d2 + 2 * K → LooseRoot K H1 (D² - d1 * d1) → LooseRoot K H2 (D² - d2 * d2) → H2 * H2 ≤ (H1 + K) * (H1 + K) + 4 * K * d1
@@ -71,8 +71,8 @@ error-le :
     c ≤ 10000 → N ≤ 7 * SH → SC ≤ 4 * SH → LooseFraction K DC (c * SC) (1000 * N * d) →
     4 * K * d * (N * N) ≤ 1120 * (K * (DC + K)) * (SH * SH)
 error-le K N c d SC SH DC high-c low-SH SC≤4SH one =
-    let axes : N * SC ≤ 28 * (SH * SH) = omega (arith, mul-le-mul-right SC low-SH, mul-le-mul-right SH SC≤4SH) in
-    omega (arith, mul-le-mul-right (K * N) (ΔC-le-DC K N c d SC DC high-c one), mul-le-mul-right (K * (DC + K)) axes)
+    let semi-axes : N * SC ≤ 28 * (SH * SH) = omega (arith, mul-le-mul-right SC low-SH, mul-le-mul-right SH SC≤4SH) in
+    omega (arith, mul-le-mul-right (K * N) (ΔC-le-DC K N c d SC DC high-c one), mul-le-mul-right (K * (DC + K)) semi-axes)
 
 -- 5.8; h is DH1 + 8 K and e is 1120 K (DC1 + K), as letters so that no product grows long. 100020001 is the square of 10001
 DH-square-le :
@@ -112,7 +112,7 @@ DE-le-of-parts u v w Y DL DC DH DE sum by-u by-v by-w whole = le-of-square-le (o
 -- DE of t is at most DE of s with a ten-thousandth, and 579 units of 2 ^ -20 for the rounding
 pub DE-le :
     {K : ℕ} {d : Data} {s t : Quantities} →
-    0 < K → Weight (d .l) → Weight (d .c) → LooseDifference K (unit K) d s → LooseDifference K (unit K) d t →
+    0 < K → Factor (d .l) → Factor (d .c) → LooseDifferences K (unit K) d s → LooseDifferences K (unit K) d t →
     Close s t → s .ΔC ≤ t .ΔC + 2 * K → t .ΔC ≤ s .ΔC + 2 * K → 10000 * t .DE ≤ 10001 * (s .DE + 579 * K)
 DE-le {K} {d} {s} {t} some hl hc one two close near back =
     omega (arith, DE-le-of-parts _ _ _ _ _ _ _ _ (two .DE .low) by-DL by-DC by-DH (sum-of-squares-le _ _ _ _ _ (one .DE .high)))

@@ -7,26 +7,29 @@
 --
 -- `Lib.antt` lists the argument's sections. `Finer/Reached.antt` has the bound that it reaches, `Finer/Sharp.antt` why these limits stand here.
 -- Assumes nothing.
-use mathlib.Core.Path.{_≡_, ap}
+use mathlib.Core.Path.{_≡_}
 use Prim.Native.Nat.{ℕ, _+_, _-_, _*_, _^_, _≤_, _<_}
 use native.Mathlib.Omega.{arith}
 use lib.Pow.{pow-pos}
 use Rattle.colour.specs.declared.conversion.GridColour.{GridColour}
-use Rattle.colour.specs.Conversion.Ranges.{OnGrid}
-use Rattle.sheet.specs.Ranges.{Weight}
+use Rattle.sheet.specs.Settings.{Tolerance}
+use Rattle.sheet.specs.Ranges.{InRange}
 use Rattle.sheet.specs.Sheet.{sheet, verdict}
 use Rattle.sheet.specs.Sheet.Laws.{abs-change, compared-near}
 use Rattle.sheet.specs.Sheet.Facts.{within-of-near, below-of-pass, above-of-fail}
 use Rattle.sheet.specs.declared.formula.Formula.{Formula}
 use Rattle.sheet.specs.declared.verdict.Verdict.the-variants.{Near, Pass, Fail}
 use Rattle.finer.specs.Loose.Lines.{pow-is-unit}
-use Rattle.finer.specs.Moves.{DE-moves, moves-le, pass-kept, fail-kept}
+use Rattle.finer.specs.Moves.{DE-moves, moved-lt, pass-kept, fail-kept}
 pub mod Reached
 pub mod Sharp
 
 -- how far two numbers are apart: one of the two differences stops at 0
 abbrev pub apart : (x y : ℕ) → ℕ
 apart x y = (x - y) + (y - x)
+
+apart-le : {x y m : ℕ} → x ≤ y + m → y ≤ x + m → apart x y ≤ m
+apart-le h g = omega arith
 
 pub record VerdictKept (n tolerance DE20 DEn : ℕ) : Type 0 where
   -- 1. a pass stays under the tolerance and a fail over it
@@ -40,23 +43,21 @@ pub record VerdictKept (n tolerance DE20 DEn : ℕ) : Type 0 where
 
 pub no-finer-sheet-changes-a-verdict :
     (f : Formula) {l c tolerance : ℕ} {R T : GridColour} →
-    Weight l → Weight c → OnGrid R → OnGrid T → 100 ≤ tolerance → tolerance ≤ 10000 →
+    InRange l c R T → Tolerance tolerance →
     (n : ℕ) → 20 ≤ n →
     VerdictKept n tolerance (sheet 20 f l c R T .DE) (sheet n f l c R T .DE)
 unfolding verdict
-no-finer-sheet-changes-a-verdict f {l} {c} {tolerance} {R} {T} hl hc reference specimen least most n from20 =
+no-finer-sheet-changes-a-verdict f {l} {c} {tolerance} {R} {T} range accepted n from20 =
     let x : ℕ = sheet 20 f l c R T .DE in
     let y : ℕ = sheet n f l c R T .DE in
     let K : ℕ = 2 ^ (n - 20) in
     let some = pow-pos (n - 20) in
     let unit = pow-is-unit n from20 in
-    let scaled = ap (λ (z : ℕ). tolerance * z) unit in
-    let moves = DE-moves n from20 f hl hc R T in
-    let distance = abs-change (tolerance * 2 ^ 20) (1000 * x) in
+    let moves = DE-moves n from20 f (range .lightness) (range .chroma) R T in
     record {
-      passes = λ e. omega (arith, pass-kept K x y some moves tolerance most (below-of-pass 20 tolerance x e));
-      fails = λ e. omega (arith, fail-kept K x y some moves tolerance most (above-of-fail 20 tolerance x e));
-      near-within = λ e. omega (arith, within-of-near 20 tolerance x e);
-      within-near = λ h. compared-near 20 (tolerance * 2 ^ 20) (1000 * x) (omega arith);
-      unmoved = λ small. omega (arith, moves-le K x y some moves small);
+      passes = λ e. rw unit (pass-kept K x y some moves tolerance (accepted .high) (below-of-pass 20 tolerance x e));
+      fails = λ e. rw unit (fail-kept K x y some moves tolerance (accepted .high) (above-of-fail 20 tolerance x e));
+      near-within = λ e. let (low, high) = within-of-near 20 tolerance x e in apart-le high low;
+      within-near = λ h. compared-near 20 (tolerance * 2 ^ 20) (1000 * x) (omega (arith, abs-change (tolerance * 2 ^ 20) (1000 * x)));
+      unmoved = λ small. rw unit (moved-lt K x y some moves small);
     }

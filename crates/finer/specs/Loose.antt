@@ -10,7 +10,7 @@ use Rattle.sheet.specs.declared.formula.Formula.the-variants.{CIELAB, CIE94, CM
 use Rattle.finer.specs.Rounded.{LooseFraction, LooseRoot}
 pub mod Sheets
 pub mod Lines
-pub mod Scaled
+pub mod Times
 pub mod AtPlaces
 pub mod AtTwenty
 
@@ -58,14 +58,14 @@ pub record Quantities : Type 0 where
 
 -- ---- lines 3 to 7 under each formula
 
--- T is (constant C + factor M) / (10 ^ 9 C): 0.36 + 0.4 M / C in the first form, 0.56 + 0.2 M / C in the second
+-- T is (constant C + slope M) / (10 ^ 9 C): 0.36 + 0.4 M / C in the first form, 0.56 + 0.2 M / C in the second
 abbrev pub constant : (second : Bool) → ℕ
 constant false = 360000000
 constant true = 560000000
 
-abbrev pub factor : (second : Bool) → ℕ
-factor false = 4
-factor true = 2
+abbrev pub slope : (second : Bool) → ℕ
+slope false = 4
+slope true = 2
 
 -- lines 5 to 7 of a reference that is not neutral
 pub record LooseHue (K N : ℕ) (d : Data) (s : Quantities) : Type 0 where
@@ -76,7 +76,7 @@ pub record LooseHue (K N : ℕ) (d : Data) (s : Quantities) : Type 0 where
   pub 43≤W : 43 * coarse K ≤ s .W
   pub F : LooseFraction K (s .F) (s .W) (s .Q * N)
   pub F≤1 : s .F ≤ N
-  pub T : LooseFraction K (s .T) (1000000000 * s .CR) ((constant (d .second) * s .CR + factor (d .second) * d .M) * N)
+  pub T : LooseFraction K (s .T) (1000000000 * s .CR) ((constant (d .second) * s .CR + slope (d .second) * d .M) * N)
   pub T≤1 : s .T ≤ N
   pub P : LooseFraction K (s .P) N (s .F * s .T)
   pub G : s .G + s .F ≡ s .P + N
@@ -100,14 +100,14 @@ pub record LooseCIELAB (N : ℕ) (s : Quantities) : Type 0 where
   pub SC : s .SC ≡ N
   pub SH : s .SH ≡ N
 
-abbrev pub LooseAxes : Formula → (K N : ℕ) (d : Data) (s : Quantities) → Type 0
-LooseAxes CIELAB K N d s = LooseCIELAB N s
-LooseAxes CIE94 K N d s = LooseCIE94 K N s
-LooseAxes CMC K N d s = LooseCMC K N d s
+abbrev pub LooseSemiAxes : Formula → (K N : ℕ) (d : Data) (s : Quantities) → Type 0
+LooseSemiAxes CIELAB K N d s = LooseCIELAB N s
+LooseSemiAxes CIE94 K N d s = LooseCIE94 K N s
+LooseSemiAxes CMC K N d s = LooseCMC K N d s
 
 -- ---- lines 2 and 8, with any semi-axes that are not small
 
-pub record LooseDifference (K N : ℕ) (d : Data) (s : Quantities) : Type 0 where
+pub record LooseDifferences (K N : ℕ) (d : Data) (s : Quantities) : Type 0 where
   pub same : d .sameHue ≡ true → s .ΔH ≡ 0
   pub ΔH : d .sameHue ≡ false → LooseRoot K (s .ΔH) (d .D² - s .ΔC * s .ΔC)
   pub 1≤2SL : N ≤ 2 * s .SL
@@ -124,5 +124,5 @@ pub record Loose (K N : ℕ) (d : Data) (s : Quantities) : Type 0 where
   pub CR : LooseRoot K (s .CR) (d .squareR)
   pub CT : LooseRoot K (s .CT) (d .squareT)
   pub ΔC : (s .ΔC + s .CR ≡ s .CT) ⊎ (s .ΔC + s .CT ≡ s .CR)
-  pub axes : LooseAxes (d .formula) K N d s
-  pub difference : LooseDifference K N d s
+  pub semi-axes : LooseSemiAxes (d .formula) K N d s
+  pub differences : LooseDifferences K N d s

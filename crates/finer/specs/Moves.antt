@@ -5,9 +5,9 @@ use native.Mathlib.Nat.{mul-le-mul-right}
 use native.Mathlib.Omega.{arith}
 use lib.Pow.{pow-pos}
 use Rattle.colour.specs.declared.conversion.GridColour.{GridColour}
-use Rattle.sheet.specs.Ranges.{Weight}
+use Rattle.sheet.specs.Settings.{Factor}
 use Rattle.sheet.specs.Sheet.{sheet}
-use Rattle.sheet.specs.Sheet.Bounds.{counted-fits}
+use Rattle.sheet.specs.Sheet.Bounds.{factorUnder-fits}
 use Rattle.sheet.specs.declared.formula.Formula.{Formula}
 use Rattle.finer.specs.Loose.{unit, Data, Quantities, Loose}
 use Rattle.finer.specs.Loose.Sheets.{dataOf, quantities-DE, times-DE}
@@ -24,19 +24,19 @@ pub record Moves (K x y : ℕ) : Type 0 where
 
 loose-DE-le :
     {K : ℕ} {d : Data} {s t : Quantities} →
-    0 < K → Weight (d .l) → Weight (d .c) → Loose K (unit K) d s → Loose K (unit K) d t → 10000 * t .DE ≤ 10001 * (s .DE + 579 * K)
+    0 < K → Factor (d .l) → Factor (d .c) → Loose K (unit K) d s → Loose K (unit K) d t → 10000 * t .DE ≤ 10001 * (s .DE + 579 * K)
 loose-DE-le some hl hc h g =
-    DE-le some hl hc (h .difference) (g .difference) (loose-close some h g) (loose-ΔC-le h g) (loose-ΔC-le g h)
+    DE-le some hl hc (h .differences) (g .differences) (loose-close some h g) (loose-ΔC-le h g) (loose-ΔC-le g h)
 
 pub DE-moves :
-    (n : ℕ) → 20 ≤ n → (f : Formula) {l c : ℕ} → Weight l → Weight c → (R T : GridColour) →
+    (n : ℕ) → 20 ≤ n → (f : Formula) {l c : ℕ} → Factor l → Factor c → (R T : GridColour) →
     Moves (2 ^ (n - 20)) (sheet 20 f l c R T .DE) (sheet n f l c R T .DE)
 unfolding dataOf
 DE-moves n from20 f {l} {c} hl hc R T =
     let both = both-loose n from20 f hl hc R T in
     let some = pow-pos (n - 20) in
-    let hl′ = counted-fits f hl in
-    let hc′ = counted-fits f hc in
+    let hl′ = factorUnder-fits f hl in
+    let hc′ = factorUnder-fits f hc in
     rw (← quantities-DE n f l c R T, ← quantities-DE 20 f l c R T)
     (record {
       above = rw times-DE at (loose-DE-le some hl′ hc′ (both .at-20) (both .at-n));
@@ -49,6 +49,10 @@ module _ (K x y : ℕ) (some : 0 < K) (moves : Moves K x y) where
   -- 1627.6339 = (10 · 2 ^ 20 + 10001 · 579) / 10000
   pub moves-le : x ≤ 10 * 2 ^ 20 → (10000 * y ≤ 10000 * (K * x) + 16276339 * K) × (10000 * (K * x) ≤ 10000 * y + 16276339 * K)
   moves-le small = let most = mul-le-mul-right K small in omega arith
+
+  -- 0.002 is 2097.152 units of 2 ^ -20
+  pub moved-lt : x ≤ 10 * 2 ^ 20 → 1000 * ((y - K * x) + (K * x - y)) < 2 * unit K
+  moved-lt small = omega (arith, moves-le small)
 
   module _ (tolerance : ℕ) (most : tolerance ≤ 10000) where
     pub pass-kept : 1000 * x + 2 * 2 ^ 20 < tolerance * 2 ^ 20 → 1000 * y < tolerance * unit K

@@ -44,8 +44,8 @@ pub fraction-weaken : {K q d p : ℕ} → 0 < K → LooseFraction 1 q d p → Lo
 fraction-weaken {d = d} some h = record { low = h .low; high = omega (arith, h .high, mul-le-mul-right d some) }
 
 -- in a unit K times finer: d and p grow j times, and p K times more
-pub fraction-scale : (K j : ℕ) {q d p d′ p′ : ℕ} → d′ ≡ j * d → p′ ≡ K * j * p → LooseFraction 1 q d p → LooseFraction K (K * q) d′ p′
-fraction-scale K j of-d of-p h =
+pub fraction-times : (K j : ℕ) {q d p d′ p′ : ℕ} → d′ ≡ j * d → p′ ≡ K * j * p → LooseFraction 1 q d p → LooseFraction K (K * q) d′ p′
+fraction-times K j of-d of-p h =
     rw (of-d, of-p)
     (record { low = omega (arith, mul-le-mul-right (K * j) (h .low)); high = omega (arith, mul-le-mul-right (K * j) (h .high)) })
 
@@ -69,8 +69,8 @@ pub root-weaken : {K r s : ℕ} → 0 < K → LooseRoot 1 r s → LooseRoot K r 
 root-weaken {K} {r} some h =
     record { low = h .low; high = omega (arith, h .high, mul-le-mul-right r some, mul-le-mul-right K some) }
 
-pub root-scale : (K : ℕ) {r s s′ : ℕ} → s′ ≡ K * K * s → LooseRoot 1 r s → LooseRoot K (K * r) s′
-root-scale K of-s h =
+pub root-times : (K : ℕ) {r s s′ : ℕ} → s′ ≡ K * K * s → LooseRoot 1 r s → LooseRoot K (K * r) s′
+root-times K of-s h =
     rw of-s (record { low = omega (arith, mul-le-mul-right (K * K) (h .low)); high = omega (arith, mul-le-mul-right (K * K) (h .high)) })
 
 -- one root, twice

@@ -1,13 +1,13 @@
 -- 01-scope.md, "Names": how the test specimen differs from the reference, in words. The hue's name is the rule of turning itself; `Names/Laws.antt`
 -- shows that the signs of a and b tell which axis is met, and that it is always just one. Assumes nothing.
 use mathlib.Core.Bool.{Bool, true, false, not, cond, _&&_}
-use Prim.Native.Nat.{ℕ, _+_, _*_, _^_}
+use Prim.Native.Nat.{_+_, _*_, _^_}
 use lib.Dec.{leb}
 use lib.IntN.{ℤ, pos, negℤ}
 use lib.Signed.{ltZ}
 use Rattle.rounding.specs.Signed.{square, minus}
 use Rattle.colour.specs.declared.conversion.GridColour.{GridColour}
-use Rattle.sheet.specs.Sheet.{sameHue, cross, dot}
+use Rattle.sheet.specs.Sheet.{sameHue, cross, dot, crossOf, dotOf}
 use Rattle.names.specs.declared.Lightness as Lightness
 use Rattle.names.specs.declared.Chroma as Chroma
 use Rattle.names.specs.declared.Axis.{Axis}
@@ -62,8 +62,9 @@ hueNamed cross dot a b =
     let first : Axis = firstMet (minus cross) a b in
     cond (sameHue cross dot) Hue.the-variants.Equal (Hue.the-variants.Towards first (nextMet (minus cross) first))
 
+-- of two colours of the grid
 unfoldable pub hueName : (R T : GridColour) → Hue.Hue
-hueName R T = hueNamed (cross (R .a .0) (R .b .0) (T .a .0) (T .b .0)) (dot (R .a .0) (R .b .0) (T .a .0) (T .b .0)) (R .a .0) (R .b .0)
+hueName R T = hueNamed (crossOf R T) (dotOf R T) (R .a .0) (R .b .0)
 
 -- ---- the reference has a² + b² at most 16, tested exactly: in grid units, of which one has 2 ^ 20
 unfoldable pub achromatic : (R : GridColour) → Bool

@@ -1,16 +1,11 @@
 // "Names" of 01: how the test specimen differs from the reference, in words.
 use colour::conversion::GridColour;
-use sheet::products::less_products;
-use sheet::products::plus_products;
-use sheet::products::squares;
+use reading::grid::Grid;
+use rounding::signed::magnitude;
 use sheet::shift::same_hue;
 ghost use mathlib.Core.Path.{_≡_};
-ghost use Rattle.colour.specs.Conversion.Ranges.{OnGrid};
-ghost use Rattle.sheet.specs.Sheet.{cross, dot};
-ghost use Rattle.sheet.specs.Ranges.{Four};
-ghost use Rattle.names.specs.Names.{lightnessName, chromaName, firstMet, nextMet, hueNamed, hueName, achromatic};
+ghost use Rattle.names.specs.Names.{lightnessName, chromaName, firstMet, nextMet, hueNamed, achromatic};
 ghost use mathlib.Core.Bool.{true, false};
-ghost use Prim.Native.Nat.{_^_};
 
 pub enum Lightness {
     Lighter,
@@ -114,14 +109,14 @@ fn next_axis(clockwise: bool, axis: Axis) -> Axis
     }
 }
 
-// The hue's name and its bracket, from the cross x and the dot y.
-fn hue_named(x: i64, y: i64, a: i64, b: i64) -> Hue
-    ensures { λ r. ⌜ r ≡ hueNamed x y a b ⌝ }
+// The hue's name and its bracket, from the cross, the dot and the reference's a and b.
+pub fn hue_name(cross: i64, dot: i64, a: i64, b: i64) -> Hue
+    ensures { λ h. ⌜ h ≡ hueNamed cross dot a b ⌝ }
 {
-    if same_hue(x, y) {
+    if same_hue(cross, dot) {
         return Hue::Equal;
     }
-    if x < 0 {
+    if cross < 0 {
         let first = first_clockwise(a, b);
         return Hue::Towards(first, next_axis(true, first));
     }
@@ -129,28 +124,22 @@ fn hue_named(x: i64, y: i64, a: i64, b: i64) -> Hue
     Hue::Towards(first, next_axis(false, first))
 }
 
-// The hue's name over the coordinates.
-fn hue_between(ar: i64, br: i64, at: i64, bt: i64) -> Hue
-    requires { ⌜ Four (2 ^ 28) ar br at bt ⌝ }
-    ensures { λ r. ⌜ r ≡ hueNamed (cross ar br at bt) (dot ar br at bt) ar br ⌝ }
-{
-    let x = less_products(ar, bt, at, br);
-    let y = plus_products(ar, at, br, bt);
-    hue_named(x, y, ar, br)
-}
+// 4 in grid units, and its square.
+const FOUR: u64 = 4 * Grid::UNITS_IN_ONE;
 
-// The hue's name and its bracket.
-pub fn hue_name(r: GridColour, t: GridColour) -> Hue
-    requires { ⌜ (OnGrid r) × (OnGrid t) ⌝ }
-    ensures { λ h. ⌜ h ≡ hueName r t ⌝ }
-{
-    hue_between(r.a.0, r.b.0, t.a.0, t.b.0)
-}
+const SIXTEEN: u64 = FOUR * FOUR;
 
-// Whether a reference has a² + b² at most 16.
+// Whether a reference has a² + b² at most 16: neither is then beyond 4.
 pub fn is_achromatic(r: GridColour) -> bool
-    requires { ⌜ OnGrid r ⌝ }
     ensures { λ y. ⌜ y ≡ achromatic r ⌝ }
 {
-    squares(r.a.0, r.b.0) <= 17592186044416
+    let a = magnitude(r.a.0);
+    let b = magnitude(r.b.0);
+    if FOUR < a {
+        return false;
+    }
+    if FOUR < b {
+        return false;
+    }
+    a * a + b * b <= SIXTEEN
 }

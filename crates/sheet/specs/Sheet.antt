@@ -6,7 +6,7 @@
 --   C chroma, D² distance², ΔL and ΔC change, ΔH hueChange
 --   SL, SC, SH semiAxisL, semiAxisC, semiAxisH; under CIE94 semiAxisC94, semiAxisH94
 --   Q, W, F, T, P, G of lines 5 to 7 hueQ, hueW, hueF, hueT, hueP, hueG
---   DL and DC weighted, DH weightedH, DE whole
+--   DL and DC component, DH componentH, DE total
 --
 -- Definitions only: `Sheet/Laws.antt` has what callers go by, `Sheet/Bounds.antt` the sizes that the code relies on, `Sheet/Facts.antt`
 -- what a reader may ask, `Sheet/Cases.antt` the figures of 01. Assumes nothing.
@@ -18,12 +18,14 @@ use Rattle.rounding.specs.Root.{rootOf}
 use Rattle.rounding.specs.Signed.{∣_∣, square, minus, signed, _·_, _÷_}
 use Rattle.colour.specs.declared.conversion.GridColour.{GridColour}
 use Rattle.colour.specs.Conversion.{Lab, atPlaces}
-use Rattle.sheet.specs.declared.axes.Axes.{Axes}
+use Rattle.sheet.specs.declared.semi_axes.SemiAxes.{SemiAxes}
 use Rattle.sheet.specs.declared.shift.Shift.{Shift}
-use Rattle.sheet.specs.declared.difference.Differences.{Differences}
-use Rattle.sheet.specs.declared.difference.Comparison.{Comparison}
+use Rattle.sheet.specs.declared.differences.Differences.{Differences}
+use Rattle.sheet.specs.declared.comparison.Comparison.{Comparison}
 use Rattle.sheet.specs.declared.formula.Formula.{Formula}
 use Rattle.sheet.specs.declared.formula.Formula.the-variants.{CIELAB, CIE94, CMC}
+use Rattle.sheet.specs.declared.scaled.Scaled.{Scaled}
+use Rattle.sheet.specs.declared.scaled.Scaled.the-variants.{Cielab, Cie94, Cmc}
 use Rattle.sheet.specs.declared.verdict.Verdict.{Verdict}
 use Rattle.sheet.specs.declared.verdict.Verdict.the-variants.{Near, Pass, Fail}
 pub mod Laws
@@ -119,16 +121,16 @@ unfoldable pub semiAxisH94 : (n C : ℕ) → ℕ
 semiAxisH94 n C = (1000 * 2 ^ n + 15 * C) / 1000
 
 -- line 8: DL = ΔL / (l·SL), and DC = ΔC / (c·SC) in the same way; l and c in thousandths
-unfoldable pub weighted : (n l SL : ℕ) (ΔL : ℤ) → ℤ
-weighted n l SL ΔL = ((1000 * 2 ^ n) · ΔL) ÷ (l * SL)
+unfoldable pub component : (n l SL : ℕ) (ΔL : ℤ) → ℤ
+component n l SL ΔL = ((1000 * 2 ^ n) · ΔL) ÷ (l * SL)
 
 -- line 8: DH = ΔH / SH
-unfoldable pub weightedH : (n SH : ℕ) (ΔH : ℤ) → ℤ
-weightedH n SH ΔH = ((2 ^ n) · ΔH) ÷ SH
+unfoldable pub componentH : (n SH : ℕ) (ΔH : ℤ) → ℤ
+componentH n SH ΔH = ((2 ^ n) · ΔH) ÷ SH
 
 -- line 8: DE = root of (DL² + DC² + DH²)
-unfoldable pub whole : (DL DC DH : ℤ) → ℕ
-whole DL DC DH = rootOf 2 (square DL + square DC + square DH)
+unfoldable pub total : (DL DC DH : ℤ) → ℕ
+total DL DC DH = rootOf 2 (square DL + square DC + square DH)
 
 -- ---- the whole sheet
 
@@ -137,8 +139,8 @@ abbrev pub chromaOf : Lab → ℕ
 chromaOf c = chroma (c .a) (c .b)
 
 -- lines 5 to 7 from the reference's a, b, its C and SC: SH, or SC if a = b = 0
-unfoldable pub hueAxis : (n : ℕ) (a b : ℤ) (C SC : ℕ) → ℕ
-hueAxis n a b C SC =
+unfoldable pub hueSemiAxis : (n : ℕ) (a b : ℤ) (C SC : ℕ) → ℕ
+hueSemiAxis n a b C SC =
     let Q : ℕ = hueQ n a b in
     let F : ℕ = hueF n Q (hueW n Q) in
     let second : Bool = secondForm a b in
@@ -146,27 +148,27 @@ hueAxis n a b C SC =
     cond (eqb (square a + square b) 0) SC (semiAxisH n SC (hueG n (hueP n F T) F))
 
 -- CIELAB: all three are 1
-unfoldable pub axesCIELAB : (n : ℕ) (a b : ℤ) → Axes
-axesCIELAB n a b = record { C = chroma a b; SL = 2 ^ n; SC = 2 ^ n; SH = 2 ^ n }
+unfoldable pub semiAxesCIELAB : (n : ℕ) (a b : ℤ) → SemiAxes
+semiAxesCIELAB n a b = record { C = chroma a b; SL = 2 ^ n; SC = 2 ^ n; SH = 2 ^ n }
 
 -- CIE94: SL = 1
-unfoldable pub axesCIE94 : (n : ℕ) (a b : ℤ) → Axes
-axesCIE94 n a b =
+unfoldable pub semiAxesCIE94 : (n : ℕ) (a b : ℤ) → SemiAxes
+semiAxesCIE94 n a b =
     let C : ℕ = chroma a b in
     record { C = C; SL = 2 ^ n; SC = semiAxisC94 n C; SH = semiAxisH94 n C }
 
 -- CMC: lines 3 to 7
-unfoldable pub axesCMC : (n L : ℕ) (a b : ℤ) → Axes
-axesCMC n L a b =
+unfoldable pub semiAxesCMC : (n L : ℕ) (a b : ℤ) → SemiAxes
+semiAxesCMC n L a b =
     let C : ℕ = chroma a b in
     let SC : ℕ = semiAxisC n C in
-    record { C = C; SL = semiAxisL n L; SC = SC; SH = hueAxis n a b C SC }
+    record { C = C; SL = semiAxisL n L; SC = SC; SH = hueSemiAxis n a b C SC }
 
 -- the chroma and the semi-axes, from the reference only
-unfoldable pub semiAxes : (n : ℕ) → Formula → (R : Lab) → Axes
-semiAxes n CIELAB R = axesCIELAB n (R .a) (R .b)
-semiAxes n CIE94 R = axesCIE94 n (R .a) (R .b)
-semiAxes n CMC R = axesCMC n (R .L) (R .a) (R .b)
+unfoldable pub semiAxes : (n : ℕ) → Formula → (R : Lab) → SemiAxes
+semiAxes n CIELAB R = semiAxesCIELAB n (R .a) (R .b)
+semiAxes n CIE94 R = semiAxesCIE94 n (R .a) (R .b)
+semiAxes n CMC R = semiAxesCMC n (R .L) (R .a) (R .b)
 
 -- lines 1 and 2, x being the cross and y the dot
 unfoldable pub shift : (R T : Lab) → Shift
@@ -178,28 +180,23 @@ shift R T =
     record { L = change (R .L) (T .L); C = ΔC; H = hueChange D² ΔC x y }
 
 -- under CIELAB l and c count as 1
-abbrev pub counted : Formula → ℕ → ℕ
-counted CIELAB l = 1000
-counted CIE94 l = l
-counted CMC l = l
+abbrev pub factorUnder : Formula → ℕ → ℕ
+factorUnder CIELAB l = 1000
+factorUnder CIE94 l = l
+factorUnder CMC l = l
 
 -- line 8
-unfoldable pub differences : (n l c : ℕ) → Axes → Shift → Differences
+unfoldable pub differences : (n l c : ℕ) → SemiAxes → Shift → Differences
 differences n l c S Δ =
-    let DL : ℤ = weighted n l (S .SL) (Δ .L) in
-    let DC : ℤ = weighted n c (S .SC) (Δ .C) in
-    let DH : ℤ = weightedH n (S .SH) (Δ .H) in
-    record { DL = DL; DC = DC; DH = DH; DE = whole DL DC DH }
+    let DL : ℤ = component n l (S .SL) (Δ .L) in
+    let DC : ℤ = component n c (S .SC) (Δ .C) in
+    let DH : ℤ = componentH n (S .SH) (Δ .H) in
+    record { DL = DL; DC = DC; DH = DH; DE = total DL DC DH }
 
 -- the sheet at n places, of a reference R and a test specimen T on the grid
 unfoldable pub sheet : (n : ℕ) → Formula → (l c : ℕ) (R T : GridColour) → Differences
 sheet n f l c R T =
-    differences n (counted f l) (counted f c) (semiAxes n f (atPlaces n R)) (shift (atPlaces n R) (atPlaces n T))
-
--- the sheet with what else a judgement hands back: the test specimen's C, and ΔL, ΔC, ΔH
-unfoldable pub comparison : (n : ℕ) → Formula → (l c : ℕ) (R T : GridColour) → Comparison
-comparison n f l c R T =
-    record { C = chromaOf (atPlaces n T); shift = shift (atPlaces n R) (atPlaces n T); differences = sheet n f l c R T }
+    differences n (factorUnder f l) (factorUnder f c) (semiAxes n f (atPlaces n R)) (shift (atPlaces n R) (atPlaces n T))
 
 -- ---- the verdict
 
@@ -211,3 +208,45 @@ compared n tolerance DE = cond (leb ∣ change tolerance DE ∣ (2 * 2 ^ n)) Nea
 -- of a tolerance in thousandths and a DE in units
 unfoldable pub verdict : (n tolerance DE : ℕ) → Verdict
 verdict n tolerance DE = compared n (tolerance * 2 ^ n) (1000 * DE)
+
+-- x thousandths of a unit on the formula's own scale
+abbrev pub onScale : Formula → (x : ℕ) → Scaled
+onScale CIELAB x = Cielab (record { 0 = x })
+onScale CIE94 x = Cie94 (record { 0 = x })
+onScale CMC x = Cmc (record { 0 = x })
+
+-- a DE in units
+abbrev pub differenceOn : Formula → (DE : ℕ) → Scaled
+differenceOn f DE = onScale f (1000 * DE)
+
+-- a tolerance in thousandths
+abbrev pub toleranceOn : (n : ℕ) → Formula → (tolerance : ℕ) → Scaled
+toleranceOn n f tolerance = onScale f (tolerance * 2 ^ n)
+
+-- compared only within one scale: a tolerance on another accepts nothing (document 004)
+unfoldable pub verdictOn : (n : ℕ) (tolerance DE : Scaled) → Verdict
+verdictOn n (Cielab t) (Cielab d) = compared n (t .0) (d .0)
+verdictOn n (Cielab t) (Cie94 d) = Fail
+verdictOn n (Cielab t) (Cmc d) = Fail
+verdictOn n (Cie94 t) (Cielab d) = Fail
+verdictOn n (Cie94 t) (Cie94 d) = compared n (t .0) (d .0)
+verdictOn n (Cie94 t) (Cmc d) = Fail
+verdictOn n (Cmc t) (Cielab d) = Fail
+verdictOn n (Cmc t) (Cie94 d) = Fail
+verdictOn n (Cmc t) (Cmc d) = compared n (t .0) (d .0)
+
+-- ---- all that a judgement takes from the sheet
+
+-- line 2 of two colours of the grid, exact at every n
+abbrev pub crossOf : (R T : GridColour) → ℤ
+crossOf R T = cross (R .a .0) (R .b .0) (T .a .0) (T .b .0)
+
+abbrev pub dotOf : (R T : GridColour) → ℤ
+dotOf R T = dot (R .a .0) (R .b .0) (T .a .0) (T .b .0)
+
+-- the test specimen's C, the shift, the cross and the dot, the differences, and DE on its scale
+unfoldable pub comparison : (n : ℕ) → Formula → (l c : ℕ) (R T : GridColour) → Comparison
+comparison n f l c R T =
+    let t : Lab = atPlaces n T in
+    let d : Differences = sheet n f l c R T in
+    record { C = chromaOf t; shift = shift (atPlaces n R) t; cross = crossOf R T; dot = dotOf R T; differences = d; scaled = differenceOn f (d .DE) }

@@ -1,8 +1,10 @@
-// The step sheet of 01-scope.md at 20 binary places: what each function returns is a line of specs/Sheet.antt, or the whole of it.
-pub mod axes;
-pub mod difference;
+// The step sheet of 01-scope.md at 20 binary places: what it is worked from, what it gives, and the sums and the rule that its lines share.
+pub mod comparison;
+pub mod differences;
 pub mod formula;
 pub mod products;
+pub mod scaled;
+pub mod semi_axes;
 pub mod settings;
 pub mod shift;
 pub mod verdict;

@@ -1,4 +1,4 @@
-// Sums and differences of two products. Bounds are those of the grid: |a|, |b| are at most 2^28, and the sheet's constants below 2^27.
+// Two products, added or one less the other, and two squares. Bounds are those of the grid: |a|, |b| are at most 2^28, and the sheet's constants below 2^27.
 use rounding::signed::magnitude;
 ghost use mathlib.Core.Path.{_≡_};
 ghost use Prim.Native.Nat.{_+_, _^_};

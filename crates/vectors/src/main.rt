@@ -2,45 +2,44 @@
 mod say;
 mod tables;
 
-use colour::conversion::GridColour;
 use colour::placed::Placed;
 use colour::placed::Written;
 use colour::placed::place_written;
 use colour::white::White;
-use difference::comparison_of;
+use comparison::comparison_of;
+use names::Chroma;
 use names::Hue;
+use names::chroma_name;
 use names::hue_name;
 use reading::decimal::Decimal;
 use rounding::signed::magnitude;
-use sheet::difference::Comparison;
+use sheet::differences::Differences;
 use sheet::formula::Formula;
 use tables::COMPONENTS;
 use tables::FIGURE_1;
 use tables::Paper;
 use tables::TABLE_2;
+ghost use Prim.Native.Nat.{_<_};
 
 // What the sheet and the names say of two colours.
 enum Found {
     Nothing,
-    Pair(Comparison, Hue),
+    Pair(Differences, Chroma, Hue),
 }
 
 // Two colours by D65/10, with l = c = 1.
 fn find(formula: Formula, reference: Written, test: Written) -> Found {
-    match place_written(reference, White::D65Ten) {
-        Placed::At(r) => match place_written(test, White::D65Ten) {
-            Placed::At(t) => {
-                let hue = hue_name(r, t);
-                Found::Pair(comparison_of(formula, 1000, 1000, r, t), hue)
-            }
-            Placed::NotFinite => Found::Nothing,
-            Placed::OutOfRange => Found::Nothing,
-            Placed::Beyond => Found::Nothing,
-        },
-        Placed::NotFinite => Found::Nothing,
-        Placed::OutOfRange => Found::Nothing,
-        Placed::Beyond => Found::Nothing,
-    }
+    let Placed::At(r) = place_written(reference, White::D65Ten) else {
+        return Found::Nothing;
+    };
+    let Placed::At(t) = place_written(test, White::D65Ten) else {
+        return Found::Nothing;
+    };
+    let all = comparison_of(formula, 1000, 1000, r, t);
+    let d = all.differences;
+    let chroma = chroma_name(all.shift.C);
+    let hue = hue_name(all.cross, all.dot, r.a.0, r.b.0);
+    Found::Pair(d, chroma, hue)
 }
 
 fn millionths(m: u64) -> Decimal {
@@ -57,23 +56,51 @@ fn hundredths(z: i64) -> Decimal {
     }
 }
 
+// X, Y, Z from place k of Table 2.
+fn xyz(k: usize) -> Written
+    requires { ⌜ k < 58 ⌝ }
+{
+    let x = millionths(TABLE_2[k]);
+    let y = millionths(TABLE_2[k + 1]);
+    let z = millionths(TABLE_2[k + 2]);
+    Written::Xyz(x, y, z)
+}
+
+// L*, a*, b* in hundredths.
+fn lab(l: i64, a: i64, b: i64) -> Written {
+    Written::Lab(hundredths(l), hundredths(a), hundredths(b))
+}
+
+// What the paper prints from place j of its components.
+fn paper(j: usize) -> Paper
+    requires { ⌜ j < 37 ⌝ }
+{
+    Paper {
+        DL: COMPONENTS[j],
+        DC: COMPONENTS[j + 1],
+        DH: COMPONENTS[j + 2],
+        DE: COMPONENTS[j + 3],
+    }
+}
+
 fn say_figures(found: Found, paper: Paper) {
     match found {
         Found::Nothing => say::text(b"  REFUSED\n"),
-        Found::Pair(c, _) => {
-            let d = c.differences;
-            say::figures(d, paper);
-        }
+        Found::Pair(d, _, _) => say::figures(d, paper),
     }
 }
 
 fn say_words(found: Found) {
     match found {
         Found::Nothing => say::text(b"  REFUSED\n"),
-        Found::Pair(c, hue) => {
-            let shift = c.shift;
-            say::words(shift, hue);
-        }
+        Found::Pair(_, chroma, hue) => say::words(chroma, hue),
+    }
+}
+
+fn say_total(found: Found, paper: i64) {
+    match found {
+        Found::Nothing => say::text(b"  REFUSED\n"),
+        Found::Pair(d, _, _) => say::total(d, paper),
     }
 }
 
@@ -82,27 +109,10 @@ fn table_2(i: usize) {
     if 10 <= i {
         return;
     }
-    let k = 6 * i;
-    let reference = Written::Xyz(
-        millionths(TABLE_2[k]),
-        millionths(TABLE_2[k + 1]),
-        millionths(TABLE_2[k + 2]),
-    );
-    let test = Written::Xyz(
-        millionths(TABLE_2[k + 3]),
-        millionths(TABLE_2[k + 4]),
-        millionths(TABLE_2[k + 5]),
-    );
-    let j = 4 * i;
-    let paper = Paper {
-        DL: COMPONENTS[j],
-        DC: COMPONENTS[j + 1],
-        DH: COMPONENTS[j + 2],
-        DE: COMPONENTS[j + 3],
-    };
     say::text(b"Table 2, pair ");
     say::number(i as u64 + 1);
-    say_figures(find(Formula::CMC, reference, test), paper);
+    let found = find(Formula::CMC, xyz(6 * i), xyz(6 * i + 3));
+    say_figures(found, paper(4 * i));
 }
 
 // Statement i of Figure 1, counted from 0, at L* = 50.
@@ -111,16 +121,8 @@ fn figure_1(i: usize) {
         return;
     }
     let k = 4 * i;
-    let reference = Written::Lab(
-        hundredths(5000),
-        hundredths(FIGURE_1[k]),
-        hundredths(FIGURE_1[k + 1]),
-    );
-    let test = Written::Lab(
-        hundredths(5000),
-        hundredths(FIGURE_1[k + 2]),
-        hundredths(FIGURE_1[k + 3]),
-    );
+    let reference = lab(5000, FIGURE_1[k], FIGURE_1[k + 1]);
+    let test = lab(5000, FIGURE_1[k + 2], FIGURE_1[k + 3]);
     say::text(b"Figure 1, statement ");
     say::number(i as u64 + 1);
     say_words(find(Formula::CMC, reference, test));
@@ -128,17 +130,13 @@ fn figure_1(i: usize) {
 
 // Document 002: CIELAB 1.81, minus in hue, greener(yellower).
 fn document_002() {
-    let reference = Written::Lab(hundredths(5368), hundredths(-920), hundredths(-3656));
-    let test = Written::Lab(hundredths(5490), hundredths(-1002), hundredths(-3550));
-    let found = find(Formula::CIELAB, reference, test);
+    let found = find(
+        Formula::CIELAB,
+        lab(5368, -920, -3656),
+        lab(5490, -1002, -3550),
+    );
     say::text(b"Document 002");
-    match found {
-        Found::Nothing => say::text(b"  REFUSED\n"),
-        Found::Pair(c, _) => {
-            let d = c.differences;
-            say::total(d, 18100);
-        }
-    }
+    say_total(found, 18100);
     say::text(b"Document 002");
     say_words(found);
 }

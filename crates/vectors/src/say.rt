@@ -3,10 +3,9 @@ use crate::tables::Paper;
 use names::Axis;
 use names::Chroma;
 use names::Hue;
-use names::chroma_name;
+use reading::grid::Grid;
 use rounding::signed::magnitude;
-use sheet::difference::Differences;
-use sheet::shift::Shift;
+use sheet::differences::Differences;
 
 pub(crate) fn text(s: &[u8]) {
     io::write_all(1, s);
@@ -23,8 +22,8 @@ fn digit(d: u64) {
 // A figure of grid units, its magnitude rounded down to four decimals.
 fn figure(key: &[u8], z: i64) {
     let m = magnitude(z);
-    let whole = m / 1048576;
-    let part = m % 1048576 * 10000 / 1048576;
+    let whole = m / Grid::UNITS_IN_ONE;
+    let part = m % Grid::UNITS_IN_ONE * 10000 / Grid::UNITS_IN_ONE;
     text(key);
     if z < 0 {
         text(b"-");
@@ -43,11 +42,11 @@ fn agrees(z: i64, paper: i64) -> bool {
         return false;
     }
     let ours = magnitude(z) % 4294967296 * 10000;
-    let theirs = magnitude(paper) % 4294967296 * 1048576;
+    let theirs = magnitude(paper) % 4294967296 * Grid::UNITS_IN_ONE;
     if ours < theirs {
-        theirs - ours <= 104857600
+        theirs - ours <= 100 * Grid::UNITS_IN_ONE
     } else {
-        ours - theirs <= 104857600
+        ours - theirs <= 100 * Grid::UNITS_IN_ONE
     }
 }
 
@@ -115,7 +114,7 @@ fn hue(name: Hue) {
 }
 
 // The names of the shift in chroma and hue.
-pub(crate) fn words(shift: Shift, name: Hue) {
-    chroma(chroma_name(shift.C));
-    hue(name);
+pub(crate) fn words(c: Chroma, h: Hue) {
+    chroma(c);
+    hue(h);
 }

@@ -1,4 +1,4 @@
--- Sections 3.1 to 3.4: how far the chroma difference, SL and SC of two loose sheets of the same colours can be apart. Over plain numbers, 1 for
+-- Sections 3.1 to 3.4: how far ΔC, SL and SC of two loose sheets of the same colours can be apart. Over plain numbers, 1 for
 -- the one sheet and 2 for the other, N for 1 in their unit. Assumes nothing.
 use mathlib.Core.Path.{_≡_}
 use mathlib.Core.Logic.{_⊎_, inl, inr}

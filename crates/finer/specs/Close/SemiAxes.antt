@@ -8,7 +8,7 @@ use native.Mathlib.Omega.{arith}
 use Rattle.sheet.specs.declared.formula.Formula.{Formula}
 use Rattle.sheet.specs.declared.formula.Formula.the-variants.{CIELAB, CIE94, CMC}
 use Rattle.finer.specs.Rounded.{LooseRoot, le-of-mul-le, root-le}
-use Rattle.finer.specs.Loose.{unit, Data, Quantities, LooseCMC, LooseCIE94, LooseCIELAB, LooseAxes, Loose}
+use Rattle.finer.specs.Loose.{unit, Data, Quantities, LooseCMC, LooseCIE94, LooseCIELAB, LooseSemiAxes, Loose}
 use Rattle.finer.specs.Close.{Close}
 use Rattle.finer.specs.Close.Chroma.{ΔC-le, SL-le, SC-le, ratio-le}
 use Rattle.finer.specs.Close.Hue.{loose-G-le}
@@ -79,15 +79,15 @@ module _ {K : ℕ} (some : 0 < K) (d : Data) (s t : Quantities) (root : LooseRoo
   cielab-close : LooseCIELAB (unit K) s → LooseCIELAB (unit K) t → Close s t
   cielab-close h g = omega arith
 
-  axes-close :
-      (f : Formula) → LooseAxes f K (unit K) d s → LooseAxes f K (unit K) d t → unit K ≤ 2 * t .SL → unit K ≤ 2 * t .SC → Close s t
-  axes-close CIELAB h g low-SL low-SC = cielab-close h g
-  axes-close CIE94 h g low-SL low-SC = cie94-close h g
-  axes-close CMC h g low-SL low-SC = cmc-close h g low-SL low-SC
+  semi-axes-close :
+      (f : Formula) → LooseSemiAxes f K (unit K) d s → LooseSemiAxes f K (unit K) d t → unit K ≤ 2 * t .SL → unit K ≤ 2 * t .SC → Close s t
+  semi-axes-close CIELAB h g low-SL low-SC = cielab-close h g
+  semi-axes-close CIE94 h g low-SL low-SC = cie94-close h g
+  semi-axes-close CMC h g low-SL low-SC = cmc-close h g low-SL low-SC
 
 pub loose-close : {K : ℕ} → 0 < K → {d : Data} {s t : Quantities} → Loose K (unit K) d s → Loose K (unit K) d t → Close s t
 loose-close some {d} {s} {t} h g =
-    axes-close some d s t (h .CR) (g .CR) (d .formula) (h .axes) (g .axes) (g .difference .1≤2SL) (g .difference .1≤2SC)
+    semi-axes-close some d s t (h .CR) (g .CR) (d .formula) (h .semi-axes) (g .semi-axes) (g .differences .1≤2SL) (g .differences .1≤2SC)
 
 -- 3.2
 pub loose-ΔC-le : {K N : ℕ} {d : Data} {s t : Quantities} → Loose K N d s → Loose K N d t → s .ΔC ≤ t .ΔC + 2 * K

@@ -4,7 +4,7 @@ use Prim.Native.Nat.{ℕ, _+_, _-_, _*_, _^_, _≤_, _<_}
 use native.Mathlib.Omega.{arith}
 use lib.Pow.{pow-pos}
 use Rattle.colour.specs.declared.conversion.GridColour.{GridColour}
-use Rattle.sheet.specs.Ranges.{Weight}
+use Rattle.sheet.specs.Settings.{Factor}
 use Rattle.sheet.specs.Sheet.{sheet}
 use Rattle.sheet.specs.declared.formula.Formula.{Formula}
 use Rattle.finer.specs.Moves.{Moves, DE-moves, moves-le}
@@ -20,6 +20,6 @@ reached-of-moves n x y moves =
     record { any = omega arith; to-10 = λ small. omega (arith, moves-le (2 ^ (n - 20)) x y some moves small) }
 
 pub bound-reached :
-    (f : Formula) {l c : ℕ} → Weight l → Weight c → (R T : GridColour) (n : ℕ) → 20 ≤ n →
+    (f : Formula) {l c : ℕ} → Factor l → Factor c → (R T : GridColour) (n : ℕ) → 20 ≤ n →
     Reached n (sheet 20 f l c R T .DE) (sheet n f l c R T .DE)
 bound-reached f hl hc R T n from20 = reached-of-moves n _ _ (DE-moves n from20 f hl hc R T)

@@ -12,7 +12,7 @@ use Rattle.colour.specs.declared.conversion.GridColour.{GridColour}
 use Rattle.colour.specs.Conversion.{atPlaces}
 use Rattle.sheet.specs.Ranges.{InRange}
 use Rattle.sheet.specs.Sheet.{chroma, distance², cross, dot, sameHue, hueChange, semiAxisL, semiAxisC, secondForm, hueQ, hueW, hueF, hueM, hueT}
-use Rattle.sheet.specs.Sheet.{hueP, hueG, semiAxisH, semiAxisC94, semiAxisH94, weighted, weightedH, whole, hueAxis, axesCIELAB, axesCIE94, axesCMC}
+use Rattle.sheet.specs.Sheet.{hueP, hueG, semiAxisH, semiAxisC94, semiAxisH94, component, componentH, total, hueSemiAxis, semiAxesCIELAB, semiAxesCIE94, semiAxesCMC}
 use Rattle.sheet.specs.Sheet.{semiAxes, shift, differences, sheet, compared, verdict}
 use Rattle.sheet.specs.declared.formula.Formula.{Formula}
 use Rattle.sheet.specs.declared.formula.Formula.the-variants.{CIELAB, CIE94, CMC}
@@ -57,7 +57,7 @@ pub record Sharp : Type 0 where
 
 pub sharp : Sharp
 unfolding rootOf _÷_ chroma distance² cross dot sameHue hueChange semiAxisL semiAxisC secondForm hueQ hueW hueF hueM hueT hueP hueG semiAxisH
-    semiAxisC94 semiAxisH94 weighted weightedH whole hueAxis axesCIELAB axesCIE94 axesCMC semiAxes shift differences sheet atPlaces compared verdict
+    semiAxisC94 semiAxisH94 component componentH total hueSemiAxis semiAxesCIELAB semiAxesCIE94 semiAxesCMC semiAxes shift differences sheet atPlaces compared verdict
 sharp = record {
   beyond-10 = record { ranges = search needs; at-20 = refl; at-40 = refl; moved = omega arith };
   over-10 = omega arith;

@@ -12,22 +12,22 @@ use lib.Pow.{pow-pos, pow-mono}
 use Rattle.rounding.specs.Root.Laws.{le-root, sq}
 use Rattle.rounding.specs.Signed.{∣_∣, square, _·_}
 use Rattle.colour.specs.Conversion.{Lab}
-use Rattle.sheet.specs.Ranges.{Weight}
+use Rattle.sheet.specs.Settings.{Factor}
 use Rattle.sheet.specs.Sheet.{chroma, chromaOf, change, sameHue, hueChange, semiAxisC, hueQ, hueW, hueF, secondForm, hueM, hueT, hueP, hueG}
-use Rattle.sheet.specs.Sheet.{axesCIELAB, axesCIE94, axesCMC, semiAxes}
-use Rattle.sheet.specs.Sheet.Laws.{chroma-pos, le-hueW, hueW-pos, hueF-le, hueM-le, hueT-le, le-hueT, le-hueG, hueAxis-neutral, hueAxis-chromatic}
+use Rattle.sheet.specs.Sheet.{semiAxesCIELAB, semiAxesCIE94, semiAxesCMC, semiAxes}
+use Rattle.sheet.specs.Sheet.Laws.{chroma-pos, le-hueW, hueW-pos, hueF-le, hueM-le, hueT-le, le-hueT, le-hueG, hueSemiAxis-neutral, hueSemiAxis-chromatic}
 use Rattle.sheet.specs.Sheet.Laws.{abs-change}
-use Rattle.sheet.specs.Sheet.Facts.{axes-at-least, divisors}
+use Rattle.sheet.specs.Sheet.Facts.{semi-axes-at-least, divisors}
 use Rattle.sheet.specs.declared.formula.Formula.{Formula}
 use Rattle.sheet.specs.declared.formula.Formula.the-variants.{CIELAB, CIE94, CMC}
 use Rattle.finer.specs.Rounded.{fraction-weaken, root-weaken}
-use Rattle.finer.specs.Loose.{Loose, LooseHue, LooseCMC, LooseAxes, LooseDifference}
+use Rattle.finer.specs.Loose.{Loose, LooseHue, LooseCMC, LooseSemiAxes, LooseDifferences}
 use Rattle.finer.specs.Loose.Sheets.{dataOf, quantities}
 use Rattle.finer.specs.Loose.Lines.{chroma-root, hueChange-root, dark-fraction, light-fraction, semiAxisC-fraction, hueQ-fraction}
 use Rattle.finer.specs.Loose.Lines.{hueW-root, hueF-fraction, hueT-fraction, hueP-fraction, hueG-sum, semiAxisH-fraction}
-use Rattle.finer.specs.Loose.Lines.{semiAxisC94-fraction, semiAxisH94-fraction, weighted-fraction, weightedH-fraction, whole-root}
+use Rattle.finer.specs.Loose.Lines.{semiAxisC94-fraction, semiAxisH94-fraction, component-fraction, componentH-fraction, total-root}
 use Rattle.finer.specs.Loose.Lines.{pow-is-coarse, pow-add-seven}
-use Rattle.finer.specs.Loose.Scaled.{scale, squares-scaled}
+use Rattle.finer.specs.Loose.Times.{finerBy, squares-times}
 
 -- ---- what both sheets need
 
@@ -63,9 +63,9 @@ pub 1-le-3G :
     omega (arith, le-trans T-low (le-hueG n (hueF-le n (hueQ n a b)) T≤1))
 
 -- a chroma on a grid K times finer is 0 or at least K
-le-chroma-scaled : (K : ℕ) (a b : ℤ) → 0 < square (K · a) + square (K · b) → K ≤ chroma (K · a) (K · b)
+le-chroma-times : (K : ℕ) (a b : ℤ) → 0 < square (K · a) + square (K · b) → K ≤ chroma (K · a) (K · b)
 unfolding chroma
-le-chroma-scaled K a b h = le-root 2 _ K (omega arith) (rw (sq, squares-scaled) (at-least (square a + square b) (rw squares-scaled at h)))
+le-chroma-times K a b h = le-root 2 _ K (omega arith) (rw (sq, squares-times) (at-least (square a + square b) (rw squares-times at h)))
   where
     at-least : (x : ℕ) → 0 < K * K * x → K * K ≤ K * K * x
     at-least x p = either (decLe 1 x)
@@ -86,7 +86,7 @@ module _ (n : ℕ) (from20 : 20 ≤ n) where
   hue-loose :
       (l c : ℕ) (R T : Lab) → 0 < square (R .a) + square (R .b) → K ≤ chromaOf R →
       LooseHue K (2 ^ n) (dataOf CMC l c R T) (quantities n CMC l c R T)
-  unfolding dataOf quantities semiAxes axesCMC
+  unfolding dataOf quantities semiAxes semiAxesCMC
   hue-loose l c R T p K≤C =
       let a : ℤ = R .a in
       let b : ℤ = R .b in
@@ -109,40 +109,40 @@ module _ (n : ℕ) (from20 : 20 ≤ n) where
         P = fraction-weaken some (hueP-fraction n F T′);
         G = hueG-sum n (hueP n F T′) F (hueF-le n Q);
         1≤3G = 1-le-3G n from20 a b p;
-        SH = rw (hueAxis-chromatic n a b C (semiAxisC n C) p) (fraction-weaken some (semiAxisH-fraction n (semiAxisC n C) _));
+        SH = rw (hueSemiAxis-chromatic n a b C (semiAxisC n C) p) (fraction-weaken some (semiAxisH-fraction n (semiAxisC n C) _));
       }
 
   cmc-loose :
       (l c : ℕ) (R T : Lab) → (0 < square (R .a) + square (R .b) → K ≤ chromaOf R) →
       LooseCMC K (2 ^ n) (dataOf CMC l c R T) (quantities n CMC l c R T)
-  unfolding dataOf quantities semiAxes axesCMC
+  unfolding dataOf quantities semiAxes semiAxesCMC
   cmc-loose l c R T K≤C =
       let C : ℕ = chromaOf R in
       record {
         dark = λ h. fraction-weaken some (dark-fraction n (R .L) h);
         light = λ h. fraction-weaken some (light-fraction n (R .L) h);
         SC = fraction-weaken some (semiAxisC-fraction n C);
-        neutral = λ z. hueAxis-neutral n (R .a) (R .b) C (semiAxisC n C) z;
+        neutral = λ z. hueSemiAxis-neutral n (R .a) (R .b) C (semiAxisC n C) z;
         chromatic = λ p. hue-loose l c R T p (K≤C p);
       }
 
-  axes-loose :
+  semi-axes-loose :
       (f : Formula) (l c : ℕ) (R T : Lab) → (0 < square (R .a) + square (R .b) → K ≤ chromaOf R) →
-      LooseAxes f K (2 ^ n) (dataOf f l c R T) (quantities n f l c R T)
-  unfolding quantities semiAxes axesCIELAB axesCIE94
-  axes-loose CIELAB l c R T K≤C = record { SL = refl; SC = refl; SH = refl }
-  axes-loose CIE94 l c R T K≤C = record {
+      LooseSemiAxes f K (2 ^ n) (dataOf f l c R T) (quantities n f l c R T)
+  unfolding quantities semiAxes semiAxesCIELAB semiAxesCIE94
+  semi-axes-loose CIELAB l c R T K≤C = record { SL = refl; SC = refl; SH = refl }
+  semi-axes-loose CIE94 l c R T K≤C = record {
     SL = refl;
     SC = fraction-weaken some (semiAxisC94-fraction n (chromaOf R));
     SH = fraction-weaken some (semiAxisH94-fraction n (chromaOf R));
   }
-  axes-loose CMC l c R T K≤C = cmc-loose l c R T K≤C
+  semi-axes-loose CMC l c R T K≤C = cmc-loose l c R T K≤C
 
-  difference-loose :
-      (f : Formula) {l c : ℕ} → Weight l → Weight c → (R T : Lab) → LooseDifference K (2 ^ n) (dataOf f l c R T) (quantities n f l c R T)
+  differences-loose :
+      (f : Formula) {l c : ℕ} → Factor l → Factor c → (R T : Lab) → LooseDifferences K (2 ^ n) (dataOf f l c R T) (quantities n f l c R T)
   unfolding dataOf quantities
-  difference-loose f hl hc R T =
-      let low = axes-at-least n from20 f R in
+  differences-loose f hl hc R T =
+      let low = semi-axes-at-least n from20 f R in
       let div = divisors n from20 f hl hc R in
       record {
         same = λ e. hueChange-same _ _ _ _ e;
@@ -150,25 +150,25 @@ module _ (n : ℕ) (from20 : 20 ≤ n) where
         1≤2SL = low .SL;
         1≤2SC = low .SC;
         1≤7SH = low .SH;
-        DL = fraction-weaken some (weighted-fraction n _ _ _ (div .DL));
-        DC = fraction-weaken some (weighted-fraction n _ _ _ (div .DC));
-        DH = fraction-weaken some (weightedH-fraction n _ _ (div .DH));
-        DE = root-weaken some (whole-root _ _ _);
+        DL = fraction-weaken some (component-fraction n _ _ _ (div .DL));
+        DC = fraction-weaken some (component-fraction n _ _ _ (div .DC));
+        DH = fraction-weaken some (componentH-fraction n _ _ (div .DH));
+        DE = root-weaken some (total-root _ _ _);
       }
 
   pub sheet-loose :
-      (f : Formula) {l c : ℕ} → Weight l → Weight c → (R T : Lab) →
-      let R′ : Lab = scale (2 ^ (n - 20)) R in
-      let T′ : Lab = scale (2 ^ (n - 20)) T in
+      (f : Formula) {l c : ℕ} → Factor l → Factor c → (R T : Lab) →
+      let R′ : Lab = finerBy (2 ^ (n - 20)) R in
+      let T′ : Lab = finerBy (2 ^ (n - 20)) T in
       Loose (2 ^ (n - 20)) (2 ^ n) (dataOf f l c R′ T′) (quantities n f l c R′ T′)
   unfolding dataOf quantities
   sheet-loose f {l} {c} hl hc R T =
-      let R′ : Lab = scale K R in
-      let T′ : Lab = scale K T in
+      let R′ : Lab = finerBy K R in
+      let T′ : Lab = finerBy K T in
       record {
         CR = root-weaken some (chroma-root (R′ .a) (R′ .b));
         CT = root-weaken some (chroma-root (T′ .a) (T′ .b));
         ΔC = change-cases (chromaOf R′) (chromaOf T′);
-        axes = axes-loose f l c R′ T′ (λ p. le-chroma-scaled K (R .a) (R .b) p);
-        difference = difference-loose f hl hc R′ T′;
+        semi-axes = semi-axes-loose f l c R′ T′ (λ p. le-chroma-times K (R .a) (R .b) p);
+        differences = differences-loose f hl hc R′ T′;
       }

@@ -1,5 +1,5 @@
 -- Section 2, line by line: each quantity of the sheet, at any n, is a fraction or a root rounded down once (`-fraction`, `-root`); and K times
--- its value at 20 places is within K of the same fraction or root in a unit K times finer (`-scaled`), whose 1 is 2 ^ 20 K. Assumes nothing.
+-- its value at 20 places is within K of the same fraction or root in a unit K times finer (`-times`), whose 1 is 2 ^ 20 K. Assumes nothing.
 use mathlib.Core.Path.{_≡_, ap, _∙_}
 use mathlib.Core.Bool.{Bool, true, false}
 use Prim.Native.Nat.{ℕ, _+_, _-_, _*_, _^_, _≤_, _<_}
@@ -9,11 +9,11 @@ use lib.Pow.{pow-pos, pow-add}
 use Rattle.rounding.specs.Signed.{∣_∣, square, _·_}
 use Rattle.rounding.specs.Signed.Laws.{abs-signed}
 use Rattle.sheet.specs.Sheet.{chroma, sameHue, hueChange, semiAxisL, semiAxisC, hueQ, hueW, hueF, hueT, hueP, hueG, semiAxisH}
-use Rattle.sheet.specs.Sheet.{semiAxisC94, semiAxisH94, weighted, weightedH, whole}
-use Rattle.sheet.specs.Sheet.Laws.{semiAxisL-dark, semiAxisL-light, abs-weighted, abs-weightedH}
-use Rattle.finer.specs.Rounded.{LooseFraction, LooseRoot, fraction-div, fraction-scale, root-rootOf, root-scale}
-use Rattle.finer.specs.Loose.{unit, coarse, constant, factor}
-use Rattle.finer.specs.Loose.Scaled.{square-scaled}
+use Rattle.sheet.specs.Sheet.{semiAxisC94, semiAxisH94, component, componentH, total}
+use Rattle.sheet.specs.Sheet.Laws.{semiAxisL-dark, semiAxisL-light, abs-component, abs-componentH}
+use Rattle.finer.specs.Rounded.{LooseFraction, LooseRoot, fraction-div, fraction-times, root-rootOf, root-times}
+use Rattle.finer.specs.Loose.{unit, coarse, constant, slope}
+use Rattle.finer.specs.Loose.Times.{square-times}
 
 -- ---- at any n
 
@@ -50,7 +50,7 @@ module _ (n : ℕ) where
   hueF-fraction Q W some = fraction-div _ _ some
 
   pub hueT-fraction :
-      (second : Bool) (M C : ℕ) → 0 < C → LooseFraction 1 (hueT n second M C) (1000000000 * C) ((constant second * C + factor second * M) * 2 ^ n)
+      (second : Bool) (M C : ℕ) → 0 < C → LooseFraction 1 (hueT n second M C) (1000000000 * C) ((constant second * C + slope second * M) * 2 ^ n)
   unfolding hueT
   hueT-fraction false M C some = fraction-div _ _ (omega arith)
   hueT-fraction true M C some = fraction-div _ _ (omega arith)
@@ -75,15 +75,15 @@ module _ (n : ℕ) where
   unfolding semiAxisH94
   semiAxisH94-fraction C = fraction-div _ _ (omega arith)
 
-  pub weighted-fraction : (l S : ℕ) (Δ : ℤ) → 0 < l * S → LooseFraction 1 ∣ weighted n l S Δ ∣ (l * S) (1000 * 2 ^ n * ∣ Δ ∣)
-  weighted-fraction l S Δ some = rw abs-weighted (fraction-div _ _ some)
+  pub component-fraction : (l S : ℕ) (Δ : ℤ) → 0 < l * S → LooseFraction 1 ∣ component n l S Δ ∣ (l * S) (1000 * 2 ^ n * ∣ Δ ∣)
+  component-fraction l S Δ some = rw abs-component (fraction-div _ _ some)
 
-  pub weightedH-fraction : (S : ℕ) (Δ : ℤ) → 0 < S → LooseFraction 1 ∣ weightedH n S Δ ∣ S (2 ^ n * ∣ Δ ∣)
-  weightedH-fraction S Δ some = rw abs-weightedH (fraction-div _ _ some)
+  pub componentH-fraction : (S : ℕ) (Δ : ℤ) → 0 < S → LooseFraction 1 ∣ componentH n S Δ ∣ S (2 ^ n * ∣ Δ ∣)
+  componentH-fraction S Δ some = rw abs-componentH (fraction-div _ _ some)
 
-pub whole-root : (DL DC DH : ℤ) → LooseRoot 1 (whole DL DC DH) (square DL + square DC + square DH)
-unfolding whole
-whole-root DL DC DH = root-rootOf _
+pub total-root : (DL DC DH : ℤ) → LooseRoot 1 (total DL DC DH) (square DL + square DC + square DH)
+unfolding total
+total-root DL DC DH = root-rootOf _
 
 -- ---- 2 ^ n, 2 ^ (n - 7) and 2 ^ (n + 7), by K = 2 ^ (n - 20)
 
@@ -100,53 +100,53 @@ pow-add-seven n = pow-add 2 n 7 ∙ omega arith
 -- ---- K times the line at 20 places, K any number
 
 module _ (K : ℕ) where
-  pub chroma-scaled : (a b : ℤ) → LooseRoot K (K * chroma a b) (square (K · a) + square (K · b))
-  chroma-scaled a b = root-scale K (omega (arith, square-scaled K a, square-scaled K b)) (chroma-root a b)
+  pub chroma-times : (a b : ℤ) → LooseRoot K (K * chroma a b) (square (K · a) + square (K · b))
+  chroma-times a b = root-times K (omega (arith, square-times K a, square-times K b)) (chroma-root a b)
 
-  pub dark-scaled : (L : ℕ) → L < 16 * 2 ^ 20 → LooseFraction K (K * semiAxisL 20 L) 1000 (511 * unit K)
-  dark-scaled L h = fraction-scale K 1 (omega arith) (omega arith) (dark-fraction 20 L h)
+  pub dark-times : (L : ℕ) → L < 16 * 2 ^ 20 → LooseFraction K (K * semiAxisL 20 L) 1000 (511 * unit K)
+  dark-times L h = fraction-times K 1 (omega arith) (omega arith) (dark-fraction 20 L h)
 
-  pub light-scaled :
+  pub light-times :
       (L : ℕ) → 16 * 2 ^ 20 ≤ L → LooseFraction K (K * semiAxisL 20 L) (1000000 * unit K + 17650 * (K * L)) (40975 * (K * L) * unit K)
-  light-scaled L h = fraction-scale K K (omega arith) (omega arith) (light-fraction 20 L h)
+  light-times L h = fraction-times K K (omega arith) (omega arith) (light-fraction 20 L h)
 
-  pub semiAxisC-scaled :
+  pub semiAxisC-times :
       (C : ℕ) →
       let d : ℕ = 10000 * unit K + 131 * (K * C) in LooseFraction K (K * semiAxisC 20 C) (d * 1000) ((638 * (K * C) * 1000 + d * 638) * unit K)
-  semiAxisC-scaled C = fraction-scale K K (omega arith) (omega arith) (semiAxisC-fraction 20 C)
+  semiAxisC-times C = fraction-times K K (omega arith) (omega arith) (semiAxisC-fraction 20 C)
 
-  pub hueQ-scaled : (a b : ℤ) → LooseFraction K (K * hueQ 20 a b) (128 * unit K) (square (K · a) + square (K · b))
-  hueQ-scaled a b = fraction-scale K K (omega arith) (omega (arith, square-scaled K a, square-scaled K b)) (hueQ-fraction 20 a b)
+  pub hueQ-times : (a b : ℤ) → LooseFraction K (K * hueQ 20 a b) (128 * unit K) (square (K · a) + square (K · b))
+  hueQ-times a b = fraction-times K K (omega arith) (omega (arith, square-times K a, square-times K b)) (hueQ-fraction 20 a b)
 
-  pub hueW-scaled : (Q : ℕ) → LooseRoot K (K * hueW 20 Q) (K * Q * (K * Q) + 1900 * (coarse K * coarse K))
-  hueW-scaled Q = root-scale K (omega arith) (hueW-root 20 Q)
+  pub hueW-times : (Q : ℕ) → LooseRoot K (K * hueW 20 Q) (K * Q * (K * Q) + 1900 * (coarse K * coarse K))
+  hueW-times Q = root-times K (omega arith) (hueW-root 20 Q)
 
-  pub hueF-scaled : (Q W : ℕ) → 0 < W → LooseFraction K (K * hueF 20 Q W) (K * W) (K * Q * unit K)
-  hueF-scaled Q W some = fraction-scale K K (omega arith) (omega arith) (hueF-fraction 20 Q W some)
+  pub hueF-times : (Q W : ℕ) → 0 < W → LooseFraction K (K * hueF 20 Q W) (K * W) (K * Q * unit K)
+  hueF-times Q W some = fraction-times K K (omega arith) (omega arith) (hueF-fraction 20 Q W some)
 
-  pub hueT-scaled :
+  pub hueT-times :
       (second : Bool) (M C : ℕ) → 0 < C →
-      LooseFraction K (K * hueT 20 second M C) (1000000000 * (K * C)) ((constant second * (K * C) + factor second * (K * M)) * unit K)
-  hueT-scaled second M C some = fraction-scale K K (omega arith) (omega arith) (hueT-fraction 20 second M C some)
+      LooseFraction K (K * hueT 20 second M C) (1000000000 * (K * C)) ((constant second * (K * C) + slope second * (K * M)) * unit K)
+  hueT-times second M C some = fraction-times K K (omega arith) (omega arith) (hueT-fraction 20 second M C some)
 
-  pub hueP-scaled : (F T : ℕ) → LooseFraction K (K * hueP 20 F T) (unit K) (K * F * (K * T))
-  hueP-scaled F T = fraction-scale K K (omega arith) (omega arith) (hueP-fraction 20 F T)
+  pub hueP-times : (F T : ℕ) → LooseFraction K (K * hueP 20 F T) (unit K) (K * F * (K * T))
+  hueP-times F T = fraction-times K K (omega arith) (omega arith) (hueP-fraction 20 F T)
 
-  pub hueG-scaled : (P F : ℕ) → F ≤ 2 ^ 20 → K * hueG 20 P F + K * F ≡ K * P + unit K
-  hueG-scaled P F h = omega (arith, ap (λ (z : ℕ). K * z) (hueG-sum 20 P F h))
+  pub hueG-times : (P F : ℕ) → F ≤ 2 ^ 20 → K * hueG 20 P F + K * F ≡ K * P + unit K
+  hueG-times P F h = omega (arith, ap (λ (z : ℕ). K * z) (hueG-sum 20 P F h))
 
-  pub semiAxisH-scaled : (SC G : ℕ) → LooseFraction K (K * semiAxisH 20 SC G) (unit K) (K * SC * (K * G))
-  semiAxisH-scaled SC G = fraction-scale K K (omega arith) (omega arith) (semiAxisH-fraction 20 SC G)
+  pub semiAxisH-times : (SC G : ℕ) → LooseFraction K (K * semiAxisH 20 SC G) (unit K) (K * SC * (K * G))
+  semiAxisH-times SC G = fraction-times K K (omega arith) (omega arith) (semiAxisH-fraction 20 SC G)
 
-  pub semiAxisC94-scaled : (C : ℕ) → LooseFraction K (K * semiAxisC94 20 C) 1000 (1000 * unit K + 45 * (K * C))
-  semiAxisC94-scaled C = fraction-scale K 1 (omega arith) (omega arith) (semiAxisC94-fraction 20 C)
+  pub semiAxisC94-times : (C : ℕ) → LooseFraction K (K * semiAxisC94 20 C) 1000 (1000 * unit K + 45 * (K * C))
+  semiAxisC94-times C = fraction-times K 1 (omega arith) (omega arith) (semiAxisC94-fraction 20 C)
 
-  pub semiAxisH94-scaled : (C : ℕ) → LooseFraction K (K * semiAxisH94 20 C) 1000 (1000 * unit K + 15 * (K * C))
-  semiAxisH94-scaled C = fraction-scale K 1 (omega arith) (omega arith) (semiAxisH94-fraction 20 C)
+  pub semiAxisH94-times : (C : ℕ) → LooseFraction K (K * semiAxisH94 20 C) 1000 (1000 * unit K + 15 * (K * C))
+  semiAxisH94-times C = fraction-times K 1 (omega arith) (omega arith) (semiAxisH94-fraction 20 C)
 
-  pub weighted-scaled :
-      (l S : ℕ) (Δ : ℤ) → 0 < l * S → LooseFraction K (K * ∣ weighted 20 l S Δ ∣) (l * (K * S)) (1000 * unit K * (K * ∣ Δ ∣))
-  weighted-scaled l S Δ some = fraction-scale K K (omega arith) (omega arith) (weighted-fraction 20 l S Δ some)
+  pub component-times :
+      (l S : ℕ) (Δ : ℤ) → 0 < l * S → LooseFraction K (K * ∣ component 20 l S Δ ∣) (l * (K * S)) (1000 * unit K * (K * ∣ Δ ∣))
+  component-times l S Δ some = fraction-times K K (omega arith) (omega arith) (component-fraction 20 l S Δ some)
 
-  pub weightedH-scaled : (S : ℕ) (Δ : ℤ) → 0 < S → LooseFraction K (K * ∣ weightedH 20 S Δ ∣) (K * S) (unit K * (K * ∣ Δ ∣))
-  weightedH-scaled S Δ some = fraction-scale K K (omega arith) (omega arith) (weightedH-fraction 20 S Δ some)
+  pub componentH-times : (S : ℕ) (Δ : ℤ) → 0 < S → LooseFraction K (K * ∣ componentH 20 S Δ ∣) (K * S) (unit K * (K * ∣ Δ ∣))
+  componentH-times S Δ some = fraction-times K K (omega arith) (omega arith) (componentH-fraction 20 S Δ some)

@@ -8,8 +8,8 @@ use Rattle.rounding.specs.Signed.{∣_∣, square}
 use Rattle.colour.specs.declared.conversion.GridColour.{GridColour}
 use Rattle.colour.specs.Conversion.{Lab, atPlaces}
 use Rattle.sheet.specs.Sheet.{chromaOf, distance², change, cross, dot, sameHue, hueChange, hueQ, hueW, hueF, secondForm, hueM, hueT, hueP, hueG}
-use Rattle.sheet.specs.Sheet.{semiAxes, shift, counted, weighted, weightedH, whole, differences, sheet}
-use Rattle.sheet.specs.declared.axes.Axes.{Axes}
+use Rattle.sheet.specs.Sheet.{semiAxes, shift, factorUnder, component, componentH, total, differences, sheet}
+use Rattle.sheet.specs.declared.semi_axes.SemiAxes.{SemiAxes}
 use Rattle.sheet.specs.declared.formula.Formula.{Formula}
 use Rattle.finer.specs.Loose.{Data, Quantities}
 
@@ -17,8 +17,8 @@ use Rattle.finer.specs.Loose.{Data, Quantities}
 unfoldable pub dataOf : Formula → (l c : ℕ) (R T : Lab) → Data
 dataOf f l c R T = record {
   formula = f;
-  l = counted f l;
-  c = counted f c;
+  l = factorUnder f l;
+  c = factorUnder f c;
   squareR = square (R .a) + square (R .b);
   squareT = square (T .a) + square (T .b);
   D² = distance² (R .a) (R .b) (T .a) (T .b);
@@ -32,14 +32,14 @@ dataOf f l c R T = record {
 -- the sheet at n places of two colours in units of 2 ^ -n
 unfoldable pub quantities : (n : ℕ) → Formula → (l c : ℕ) (R T : Lab) → Quantities
 quantities n f l c R T =
-    let S : Axes = semiAxes n f R in
+    let S : SemiAxes = semiAxes n f R in
     let ΔC : ℤ = change (chromaOf R) (chromaOf T) in
     let x : ℤ = cross (R .a) (R .b) (T .a) (T .b) in
     let y : ℤ = dot (R .a) (R .b) (T .a) (T .b) in
     let ΔH : ℤ = hueChange (distance² (R .a) (R .b) (T .a) (T .b)) ΔC x y in
-    let DL : ℤ = weighted n (counted f l) (S .SL) (change (R .L) (T .L)) in
-    let DC : ℤ = weighted n (counted f c) (S .SC) ΔC in
-    let DH : ℤ = weightedH n (S .SH) ΔH in
+    let DL : ℤ = component n (factorUnder f l) (S .SL) (change (R .L) (T .L)) in
+    let DC : ℤ = component n (factorUnder f c) (S .SC) ΔC in
+    let DH : ℤ = componentH n (S .SH) ΔH in
     let Q : ℕ = hueQ n (R .a) (R .b) in
     let F : ℕ = hueF n Q (hueW n Q) in
     let second : Bool = secondForm (R .a) (R .b) in
@@ -61,7 +61,7 @@ quantities n f l c R T =
       DL = ∣ DL ∣;
       DC = ∣ DC ∣;
       DH = ∣ DH ∣;
-      DE = whole DL DC DH;
+      DE = total DL DC DH;
     }
 
 -- its DE is the sheet's

@@ -2,7 +2,7 @@
 -- cross is 0 and the dot not negative, as it always is from a neutral reference. Assumes nothing.
 use mathlib.Core.Path.{_≡_, refl, sym, ap, ap₂, _∙_}
 use mathlib.Core.Bool.{Bool, true, false, not, cond, _&&_}
-use Prim.Native.Nat.{ℕ, zero, suc, _+_, _*_, _≤_, _<_, zero-le}
+use Prim.Native.Nat.{ℕ, zero, suc, zero-le}
 use native.Mathlib.Nat.{zero-lt-suc}
 use native.Mathlib.Omega.{arith}
 use borrow.Author.Tests.{lt-ltb, le-ltb}
@@ -12,11 +12,11 @@ use lib.Signed.{ltZ}
 use Rattle.rounding.specs.Signed.{minus}
 use Rattle.rounding.specs.Signed.Difference.{diff-same, diff-parts, diff-neg, diff-add, diff-sub, diff-mul}
 use Rattle.colour.specs.declared.conversion.GridColour.{GridColour}
-use Rattle.sheet.specs.Sheet.{sameHue, cross, dot}
-use Rattle.names.specs.Names.{direction, met, firstMet, nextMet, hueNamed, hueName}
+use Rattle.sheet.specs.Sheet.{sameHue, cross, dot, comparison}
+use Rattle.sheet.specs.declared.formula.Formula.{Formula}
+use Rattle.names.specs.Names.{met, firstMet, nextMet, hueNamed, hueName}
 use Rattle.names.specs.declared.Axis.{Axis}
 use Rattle.names.specs.declared.Axis.the-variants.{Redder, Yellower, Greener, Bluer}
-use Rattle.names.specs.declared.Hue.{Hue}
 use Rattle.names.specs.declared.Hue.the-variants.{Equal, Towards}
 
 -- ---- signs
@@ -330,3 +330,11 @@ pub neutral-equal : (R T : GridColour) → R .a .0 ≡ pos 0 → R .b .0 ≡ pos
 unfolding hueName sameHue
 neutral-equal R T ha hb =
     rw (ha, hb, cross-neutral (T .a .0) (T .b .0), dot-neutral (T .a .0) (T .b .0)) (hue-equal (pos 0) (pos 0) (pos 0) (pos 0) refl)
+
+-- ---- a comparison holds the cross and the dot that its hue is named by
+
+pub hue-of-comparison :
+    (n : ℕ) (f : Formula) (l c : ℕ) (R T : GridColour) →
+    hueNamed (comparison n f l c R T .cross) (comparison n f l c R T .dot) (R .a .0) (R .b .0) ≡ hueName R T
+unfolding comparison hueName
+hue-of-comparison n f l c R T = refl

@@ -13,13 +13,14 @@ use Rattle.rounding.specs.Signed.Laws.{abs-sub-le, abs-signed}
 use Rattle.colour.specs.declared.conversion.GridColour.{GridColour}
 use Rattle.colour.specs.Conversion.{Lab, atPlaces}
 use Rattle.colour.specs.Conversion.Ranges.{OnGrid}
-use Rattle.sheet.specs.Places.{atPlaces-20, units}
-use Rattle.sheet.specs.Ranges.{Both, Weight, InRange, SemiAxis, Weighed, Moved, Parts}
-use Rattle.sheet.specs.Sheet.{chroma, distance², sameHue, hueChange, semiAxisC94, semiAxisH94, semiAxisH, hueAxis, weighted, weightedH, whole}
-use Rattle.sheet.specs.Sheet.{counted, differences, sheet, axesCIELAB, axesCIE94, axesCMC, semiAxes, shift}
-use Rattle.sheet.specs.Sheet.Laws.{chroma-lt, le-semiAxisL, semiAxisL-le, le-semiAxisC, semiAxisC-le, semiAxisH-le, hueAxis-by-G, change-le}
-use Rattle.sheet.specs.Sheet.Laws.{abs-weighted, abs-weightedH}
-use Rattle.sheet.specs.declared.axes.Axes.{Axes}
+use Rattle.colour.specs.Conversion.Places.{atPlaces-20, units}
+use Rattle.sheet.specs.Settings.{Factor}
+use Rattle.sheet.specs.Ranges.{Both, InRange, SemiAxis, SemiAxesInRange, Moved, Components, ComparisonInRange}
+use Rattle.sheet.specs.Sheet.{chroma, chromaOf, distance², sameHue, hueChange, semiAxisC94, semiAxisH94, semiAxisH, hueSemiAxis, component, componentH, total}
+use Rattle.sheet.specs.Sheet.{factorUnder, differences, sheet, comparison, semiAxesCIELAB, semiAxesCIE94, semiAxesCMC, semiAxes, shift}
+use Rattle.sheet.specs.Sheet.Laws.{chroma-lt, le-semiAxisL, semiAxisL-le, le-semiAxisC, semiAxisC-le, semiAxisH-le, hueSemiAxis-by-G, change-le}
+use Rattle.sheet.specs.Sheet.Laws.{semi-axes-C, abs-component, abs-componentH}
+use Rattle.sheet.specs.declared.semi_axes.SemiAxes.{SemiAxes}
 use Rattle.sheet.specs.declared.shift.Shift.{Shift}
 use Rattle.sheet.specs.declared.formula.Formula.{Formula}
 use Rattle.sheet.specs.declared.formula.Formula.the-variants.{CIELAB, CIE94, CMC}
@@ -29,6 +30,9 @@ use Rattle.sheet.specs.declared.formula.Formula.the-variants.{CIELAB, CI
 pub hue-of-grid : {c : GridColour} → OnGrid c → Both (2 ^ 28) (c .a .0) (c .b .0)
 hue-of-grid h = record { first = h .a; second = h .b }
 
+pub chromaOf-lt : {c : GridColour} → OnGrid c → chromaOf (atPlaces 20 c) < 2 ^ 29
+chromaOf-lt {c} h = rw (atPlaces-20 c) (chroma-lt (c .a .0) (c .b .0) (hue-of-grid h))
+
 -- ---- the semi-axes
 
 -- SH: SC is at least 0.638, G at least 0.36
@@ -36,28 +40,28 @@ semiAxisH-low : (SC G : ℕ) → 668991 ≤ SC → 377487 ≤ G → 240000 ≤ s
 unfolding semiAxisH
 semiAxisH-low SC G h g = le-div _ _ _ (omega arith) (omega (arith, mul-le-mul h g))
 
-hueAxis-fits : (a b : ℤ) (SC : ℕ) → 668991 ≤ SC → SC < 2 ^ 40 → SemiAxis (hueAxis 20 a b (chroma a b) SC)
-hueAxis-fits a b SC h g =
-    let by = hueAxis-by-G 20 a b SC in
+hueSemiAxis-fits : (a b : ℤ) (SC : ℕ) → 668991 ≤ SC → SC < 2 ^ 40 → SemiAxis (hueSemiAxis 20 a b (chroma a b) SC)
+hueSemiAxis-fits a b SC h g =
+    let by = hueSemiAxis-by-G 20 a b SC in
     rw (by .is) (record { low = semiAxisH-low SC (by .G) h (by .low); high = omega (arith, semiAxisH-le 20 {SC = SC} (by .high)) })
 
-axes-weighed : (f : Formula) (R : Lab) → Both (2 ^ 28) (R .a) (R .b) → Weighed (semiAxes 20 f R)
-unfolding semiAxes axesCIELAB axesCIE94 axesCMC semiAxisC94 semiAxisH94
-axes-weighed CIELAB R h = record {
+semi-axes-in-range : (f : Formula) (R : Lab) → Both (2 ^ 28) (R .a) (R .b) → SemiAxesInRange (semiAxes 20 f R)
+unfolding semiAxes semiAxesCIELAB semiAxesCIE94 semiAxesCMC semiAxisC94 semiAxisH94
+semi-axes-in-range CIELAB R h = record {
   light = record { low = omega arith; high = omega arith };
   chroma = record { low = omega arith; high = omega arith };
   hue = record { low = omega arith; high = omega arith };
   SL = omega arith;
   SC = omega arith;
 }
-axes-weighed CIE94 R h = let small = chroma-lt (R .a) (R .b) h in record {
+semi-axes-in-range CIE94 R h = let small = chroma-lt (R .a) (R .b) h in record {
   light = record { low = omega arith; high = omega arith };
   chroma = record { low = omega arith; high = omega arith };
   hue = record { low = omega arith; high = omega arith };
   SL = omega arith;
   SC = omega arith;
 }
-axes-weighed CMC R h =
+semi-axes-in-range CMC R h =
     let l = le-semiAxisL 20 (R .L) in
     let lt = semiAxisL-le 20 (R .L) in
     let c = le-semiAxisC 20 (chroma (R .a) (R .b)) in
@@ -65,13 +69,16 @@ axes-weighed CMC R h =
     record {
       light = record { low = omega arith; high = omega arith };
       chroma = record { low = omega arith; high = omega arith };
-      hue = hueAxis-fits (R .a) (R .b) _ c (omega arith);
+      hue = hueSemiAxis-fits (R .a) (R .b) _ c (omega arith);
       SL = l;
       SC = c;
     }
 
-pub axes-of-grid : (f : Formula) {R : GridColour} → OnGrid R → Weighed (semiAxes 20 f (atPlaces 20 R))
-axes-of-grid f {R} h = rw (atPlaces-20 R) (axes-weighed f (units R) (hue-of-grid h))
+pub semi-axes-of-grid : (f : Formula) {R : GridColour} → OnGrid R → SemiAxesInRange (semiAxes 20 f (atPlaces 20 R))
+semi-axes-of-grid f {R} h = rw (atPlaces-20 R) (semi-axes-in-range f (units R) (hue-of-grid h))
+
+pub semi-axes-C-lt : (f : Formula) {R : GridColour} → OnGrid R → semiAxes 20 f (atPlaces 20 R) .C < 2 ^ 29
+semi-axes-C-lt f {R} h = rw (semi-axes-C 20 f (atPlaces 20 R)) (chromaOf-lt h)
 
 -- ---- the shift
 
@@ -107,33 +114,43 @@ shift-of-grid {R} {T} h g =
 
 -- ---- line 8
 
-pub counted-fits : (f : Formula) {l : ℕ} → Weight l → Weight (counted f l)
-counted-fits CIELAB h = record { low = omega arith; high = omega arith }
-counted-fits CIE94 h = h
-counted-fits CMC h = h
+pub factorUnder-fits : (f : Formula) {l : ℕ} → Factor l → Factor (factorUnder f l)
+factorUnder-fits CIELAB h = record { low = omega arith; high = omega arith }
+factorUnder-fits CIE94 h = h
+factorUnder-fits CMC h = h
 
 quotient-le : (k m d x e q : ℕ) → x ≤ m → e ≤ d → 0 < e → k * m < (q + 1) * e → k * x / d ≤ q
 quotient-le k m d x e q hx he pe h =
     div-le _ _ _ (omega arith) (omega (arith, mul-le-mul-left k hx, mul-le-mul-left (q + 1) he))
 
-pub parts-fit :
-    {l c : ℕ} {S : Axes} {Δ : Shift} →
-    Weight l → Weight c → Weighed S → Moved Δ →
-    Parts (weighted 20 l (S .SL) (Δ .L)) (weighted 20 c (S .SC) (Δ .C)) (weightedH 20 (S .SH) (Δ .H))
-parts-fit {l} {c} {S} {Δ} hl hc s m = record {
-  L = rw abs-weighted (quotient-le 1048576000 (120 * 2 ^ 20) _ _ (500 * 535822) _ (m .L) (mul-le-mul (hl .low) (s .SL)) (omega arith) (omega arith));
-  C = rw abs-weighted (quotient-le 1048576000 (2 ^ 29) _ _ (500 * 668991) _ (m .C) (mul-le-mul (hc .low) (s .SC)) (omega arith) (omega arith));
-  H = rw abs-weightedH (quotient-le 1048576 759250125 _ _ 240000 _ (m .H) (s .hue .low) (omega arith) (omega arith));
+pub components-fit :
+    {l c : ℕ} {S : SemiAxes} {Δ : Shift} →
+    Factor l → Factor c → SemiAxesInRange S → Moved Δ →
+    Components (component 20 l (S .SL) (Δ .L)) (component 20 c (S .SC) (Δ .C)) (componentH 20 (S .SH) (Δ .H))
+components-fit {l} {c} {S} {Δ} hl hc s m = record {
+  L = rw abs-component (quotient-le 1048576000 (120 * 2 ^ 20) _ _ (500 * 535822) _ (m .L) (mul-le-mul (hl .low) (s .SL)) (omega arith) (omega arith));
+  C = rw abs-component (quotient-le 1048576000 (2 ^ 29) _ _ (500 * 668991) _ (m .C) (mul-le-mul (hc .low) (s .SC)) (omega arith) (omega arith));
+  H = rw abs-componentH (quotient-le 1048576 759250125 _ _ 240000 _ (m .H) (s .hue .low) (omega arith) (omega arith));
 }
 
 -- DE is below 4096
-pub whole-lt : {DL DC DH : ℤ} → Parts DL DC DH → whole DL DC DH < 2 ^ 32
-unfolding whole
-whole-lt h = root-lt 2 _ (2 ^ 32) (omega arith) (omega (arith, mul-le-mul (h .L) (h .L), mul-le-mul (h .C) (h .C), mul-le-mul (h .H) (h .H)))
+pub total-lt : {DL DC DH : ℤ} → Components DL DC DH → total DL DC DH < 2 ^ 32
+unfolding total
+total-lt h = root-lt 2 _ (2 ^ 32) (omega arith) (omega (arith, mul-le-mul (h .L) (h .L), mul-le-mul (h .C) (h .C), mul-le-mul (h .H) (h .H)))
 
-pub sheet-DE-lt : (f : Formula) {l c : ℕ} {R T : GridColour} → InRange l c R T → sheet 20 f l c R T .DE < 2 ^ 32
-unfolding sheet differences
-sheet-DE-lt f h =
-    let axes = axes-of-grid f (h .reference) in
-    let moved = shift-of-grid (h .reference) (h .specimen) in
-    whole-lt (parts-fit (counted-fits f (h .lightness)) (counted-fits f (h .chroma)) axes moved)
+-- ---- the sheet
+
+module _ (f : Formula) {l c : ℕ} {R T : GridColour} (h : InRange l c R T) where
+  sheet-components : Components (sheet 20 f l c R T .DL) (sheet 20 f l c R T .DC) (sheet 20 f l c R T .DH)
+  unfolding sheet differences
+  sheet-components =
+      components-fit (factorUnder-fits f (h .lightness)) (factorUnder-fits f (h .chroma)) (semi-axes-of-grid f (h .reference))
+      (shift-of-grid (h .reference) (h .specimen))
+
+  pub sheet-DE-lt : sheet 20 f l c R T .DE < 2 ^ 32
+  unfolding sheet differences
+  sheet-DE-lt = total-lt sheet-components
+
+  pub comparison-in-range : ComparisonInRange (comparison 20 f l c R T)
+  unfolding comparison
+  comparison-in-range = record { C = chromaOf-lt (h .specimen); components = sheet-components; DE = sheet-DE-lt }

@@ -10,9 +10,9 @@ use Rattle.colour.specs.declared.conversion.GridColour.{GridColour}
 use Rattle.colour.specs.declared.white.White.the-variants.{D65Ten}
 use Rattle.colour.specs.White.{whiteOf}
 use Rattle.colour.specs.Conversion.{bs6923, aboveCut, fHigh, fLow, f, lightness, convert, atPlaces}
-use Rattle.sheet.specs.Sheet.{chroma, distance², cross, dot, sameHue, hueChange, semiAxisL, semiAxisC, secondForm, weighted, weightedH, whole}
-use Rattle.sheet.specs.Sheet.{hueAxis, axesCIELAB, axesCMC, semiAxes, shift, differences, sheet, compared, verdict}
-use Rattle.sheet.specs.declared.difference.Differences.{Differences}
+use Rattle.sheet.specs.Sheet.{chroma, distance², cross, dot, sameHue, hueChange, semiAxisL, semiAxisC, secondForm, component, componentH, total}
+use Rattle.sheet.specs.Sheet.{hueSemiAxis, semiAxesCIELAB, semiAxesCMC, semiAxes, shift, differences, sheet, compared, verdict}
+use Rattle.sheet.specs.declared.differences.Differences.{Differences}
 use Rattle.sheet.specs.declared.formula.Formula.the-variants.{CIELAB, CMC}
 use Rattle.sheet.specs.declared.verdict.Verdict.the-variants.{Near, Pass, Fail}
 
@@ -59,7 +59,7 @@ pub record SheetCases : Type 0 where
       × (verdict 20 921 (cmc (grey 50) (grey 51) .DE) ≡ Pass)
 
 pub sheet-cases : SheetCases
-unfolding rootOf _÷_ chroma distance² cross dot sameHue hueChange semiAxisL semiAxisC secondForm weighted weightedH whole hueAxis axesCIELAB axesCMC semiAxes shift differences sheet compared verdict whiteOf aboveCut fHigh fLow f lightness convert atPlaces
+unfolding rootOf _÷_ chroma distance² cross dot sameHue hueChange semiAxisL semiAxisC secondForm component componentH total hueSemiAxis semiAxesCIELAB semiAxesCMC semiAxes shift differences sheet compared verdict whiteOf aboveCut fHigh fLow f lightness convert atPlaces
 sheet-cases = record {
   case-1 = refl;
   case-2 = refl;

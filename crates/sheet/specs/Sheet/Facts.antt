@@ -3,8 +3,8 @@
 use mathlib.Core.Path.{_≡_, refl, ap₂, _∙_}
 use mathlib.Core.Bool.{Bool, true, false, cond}
 use mathlib.Core.Logic.{_⊎_, inl, inr}
-use Prim.Native.Nat.{ℕ, _+_, _-_, _*_, _/_, _^_, _≤_, _<_}
-use native.Mathlib.Nat.{eq-zero-or-pos, mul-pos, mul-zero, mul-le-mul, mul-le-mul-right, zero-div, zero-sub}
+use Prim.Native.Nat.{ℕ, _+_, _*_, _/_, _^_, _≤_, _<_, zero-le}
+use native.Mathlib.Nat.{eq-zero-or-pos, mul-pos, mul-zero, mul-le-mul, mul-le-mul-right, zero-div}
 use native.Mathlib.Omega.{arith}
 use borrow.Author.Tests.{leb-true, leb-false, ltb-true, ltb-false}
 use lib.Dec.{leb, ltb}
@@ -12,18 +12,19 @@ use lib.IntN.{ℤ, pos, _-ℤ_}
 use lib.Pow.{pow-pos, pow-mono}
 use Rattle.rounding.specs.Fraction.{le-div}
 use Rattle.rounding.specs.Root.Laws.{sqrt-high, root-at}
-use Rattle.rounding.specs.Signed.{∣_∣, square, minus, signed}
+use Rattle.rounding.specs.Signed.{∣_∣, square}
 use Rattle.rounding.specs.Signed.Difference.{diff-abs, diff-sub, diff-parts}
 use Rattle.rounding.specs.Signed.Laws.{zero-of-abs}
 use Rattle.colour.specs.declared.conversion.GridColour.{GridColour}
 use Rattle.colour.specs.Conversion.{Lab}
-use Rattle.sheet.specs.Ranges.{Weight}
-use Rattle.sheet.specs.Sheet.{chroma, chromaOf, distance², change, sameHue, hueChange, semiAxisH, hueQ, hueW, hueAxis, semiAxisC, semiAxisC94}
-use Rattle.sheet.specs.Sheet.{semiAxisH94, weighted, weightedH, whole, axesCIELAB, axesCIE94, axesCMC, semiAxes, shift, counted, differences}
+use Rattle.sheet.specs.Settings.{Factor}
+use Rattle.sheet.specs.Sheet.{chroma, chromaOf, distance², change, semiAxisH, hueQ, hueW, hueSemiAxis, semiAxisC, semiAxisC94}
+use Rattle.sheet.specs.Sheet.{semiAxisH94, component, componentH, total, semiAxesCIELAB, semiAxesCIE94, semiAxesCMC, semiAxes, shift, factorUnder, differences}
 use Rattle.sheet.specs.Sheet.{sheet, compared, verdict}
-use Rattle.sheet.specs.Sheet.Laws.{chroma-pos, le-semiAxisL, le-semiAxisC, hueW-pos, hueAxis-by-G, abs-change, abs-weighted, abs-weightedH}
-use Rattle.sheet.specs.declared.axes.Axes.{Axes}
-use Rattle.sheet.specs.declared.difference.Differences.{Differences}
+use Rattle.sheet.specs.Sheet.Laws.{chroma-pos, le-semiAxisL, le-semiAxisC, hueW-pos, hueSemiAxis-by-G, abs-change, hueChange-zero, abs-component}
+use Rattle.sheet.specs.Sheet.Laws.{abs-componentH}
+use Rattle.sheet.specs.declared.semi_axes.SemiAxes.{SemiAxes}
+use Rattle.sheet.specs.declared.differences.Differences.{Differences}
 use Rattle.sheet.specs.declared.formula.Formula.{Formula}
 use Rattle.sheet.specs.declared.formula.Formula.the-variants.{CIELAB, CIE94, CMC}
 use Rattle.sheet.specs.declared.verdict.Verdict.{Verdict}
@@ -44,9 +45,9 @@ zero-of-square x h = either (eq-zero-or-pos x)
     either (inr p) = absurd (omega (arith, mul-pos p p))
 
 module _ (DL DC DH : ℤ) where
-  pub all-zero-of-whole : whole DL DC DH ≡ 0 → AllZero DL DC DH
-  unfolding whole
-  all-zero-of-whole e = record {
+  pub all-zero-of-total : total DL DC DH ≡ 0 → AllZero DL DC DH
+  unfolding total
+  all-zero-of-total e = record {
     DL-zero = zero-of-abs DL (zero-of-square ∣ DL ∣ (omega (arith, none)));
     DC-zero = zero-of-abs DC (zero-of-square ∣ DC ∣ (omega (arith, none)));
     DH-zero = zero-of-abs DH (zero-of-square ∣ DH ∣ (omega (arith, none)));
@@ -55,12 +56,12 @@ module _ (DL DC DH : ℤ) where
       none : square DL + square DC + square DH < 1
       none = rw e at (sqrt-high (square DL + square DC + square DH))
 
-  pub whole-of-all-zero : AllZero DL DC DH → whole DL DC DH ≡ 0
-  unfolding whole
-  whole-of-all-zero h = rw (h .DL-zero, h .DC-zero, h .DH-zero) (root-at 2 0 0 tt tt tt)
+  pub total-of-all-zero : AllZero DL DC DH → total DL DC DH ≡ 0
+  unfolding total
+  total-of-all-zero h = rw (h .DL-zero, h .DC-zero, h .DH-zero) (root-at 2 0 0 tt tt tt)
 
-whole-zero : whole (pos 0) (pos 0) (pos 0) ≡ 0
-whole-zero = whole-of-all-zero (pos 0) (pos 0) (pos 0) (record { DL-zero = refl; DC-zero = refl; DH-zero = refl })
+total-zero : total (pos 0) (pos 0) (pos 0) ≡ 0
+total-zero = total-of-all-zero (pos 0) (pos 0) (pos 0) (record { DL-zero = refl; DC-zero = refl; DH-zero = refl })
 
 -- of the sheet
 pub DE-zero-iff :
@@ -68,7 +69,7 @@ pub DE-zero-iff :
     let d : Differences = sheet n f l c R T in
     (d .DE ≡ 0 → AllZero (d .DL) (d .DC) (d .DH)) × (AllZero (d .DL) (d .DC) (d .DH) → d .DE ≡ 0)
 unfolding sheet differences
-DE-zero-iff n f l c R T = (all-zero-of-whole _ _ _, whole-of-all-zero _ _ _)
+DE-zero-iff n f l c R T = (all-zero-of-total _ _ _, total-of-all-zero _ _ _)
 
 -- ---- equal colours differ by 0
 
@@ -82,33 +83,24 @@ distance²-self : (a b : ℤ) → distance² a b a b ≡ 0
 unfolding distance²
 distance²-self a b = ap₂ (λ (x y : ℕ). x * x + y * y) (sub-self a) (sub-self b)
 
-hueChange-none : (ΔC x y : ℤ) → hueChange 0 ΔC x y ≡ pos 0
-unfolding hueChange
-hueChange-none ΔC x y = rw (zero-sub, root-at 2 0 0 tt tt tt) (either (sameHue x y) (minus x))
-  where
-    either : (same below : Bool) → cond same (pos 0) (signed below 0) ≡ pos 0
-    either true below = refl
-    either false true = refl
-    either false false = refl
-
 module _ (n l S : ℕ) where
-  weighted-zero : weighted n l S (pos 0) ≡ pos 0
-  weighted-zero = zero-of-abs (weighted n l S (pos 0)) (abs-weighted n l S (pos 0) ∙ rw mul-zero (zero-div (l * S)))
+  component-zero : component n l S (pos 0) ≡ pos 0
+  component-zero = zero-of-abs (component n l S (pos 0)) (abs-component n l S (pos 0) ∙ rw mul-zero (zero-div (l * S)))
 
-  weightedH-zero : weightedH n S (pos 0) ≡ pos 0
-  weightedH-zero = zero-of-abs (weightedH n S (pos 0)) (abs-weightedH n S (pos 0) ∙ rw mul-zero (zero-div S))
+  componentH-zero : componentH n S (pos 0) ≡ pos 0
+  componentH-zero = zero-of-abs (componentH n S (pos 0)) (abs-componentH n S (pos 0) ∙ rw mul-zero (zero-div S))
 
 shift-self : (R : Lab) → shift R R ≡ record { L = pos 0; C = pos 0; H = pos 0 }
 unfolding shift
-shift-self R = rw (change-self (R .L), change-self (chromaOf R), distance²-self (R .a) (R .b), hueChange-none)
+shift-self R = rw (change-self (R .L), change-self (chromaOf R), distance²-self (R .a) (R .b), hueChange-zero 0 (pos 0) _ _ zero-le)
 
 pub sheet-self : (n : ℕ) (f : Formula) (l c : ℕ) (R : GridColour) → sheet n f l c R R ≡ record { DL = pos 0; DC = pos 0; DH = pos 0; DE = 0 }
 unfolding sheet differences
-sheet-self n f l c R = simp (shift-self, weighted-zero, weightedH-zero, whole-zero)
+sheet-self n f l c R = simp (shift-self, component-zero, componentH-zero, total-zero)
 
 -- ---- SL and SC are at least 1/2 and SH is at least 1/7, whatever the formula and the colour
 
-pub record AtLeast (n : ℕ) (S : Axes) : Type 0 where
+pub record AtLeast (n : ℕ) (S : SemiAxes) : Type 0 where
   pub SL : 2 ^ n ≤ 2 * S .SL
   pub SC : 2 ^ n ≤ 2 * S .SC
   pub SH : 2 ^ n ≤ 7 * S .SH
@@ -127,22 +119,22 @@ module _ (n : ℕ) (from20 : 20 ≤ n) where
   unit-le : 1048576 ≤ 2 ^ n
   unit-le = pow-mono from20
 
-  le-seven-hueAxis : (a b : ℤ) (SC : ℕ) → 3 * 2 ^ n ≤ 5 * SC → 2 ^ n ≤ 7 * hueAxis n a b (chroma a b) SC
+  le-seven-hueSemiAxis : (a b : ℤ) (SC : ℕ) → 3 * 2 ^ n ≤ 5 * SC → 2 ^ n ≤ 7 * hueSemiAxis n a b (chroma a b) SC
   unfolding semiAxisH
-  le-seven-hueAxis a b SC h =
-      let by = hueAxis-by-G n a b SC in
+  le-seven-hueSemiAxis a b SC h =
+      let by = hueSemiAxis-by-G n a b SC in
       rw (by .is) (le-seven-products (2 ^ n) SC (by .G) unit-le h (omega (arith, unit-le, by .low)))
 
-  pub axes-at-least : (f : Formula) (R : Lab) → AtLeast n (semiAxes n f R)
-  unfolding semiAxes axesCIELAB axesCIE94 axesCMC semiAxisC94 semiAxisH94
-  axes-at-least CIELAB R = record { SL = omega arith; SC = omega arith; SH = omega arith }
-  axes-at-least CIE94 R = record { SL = omega arith; SC = omega (arith, unit-le); SH = omega (arith, unit-le) }
-  axes-at-least CMC R =
+  pub semi-axes-at-least : (f : Formula) (R : Lab) → AtLeast n (semiAxes n f R)
+  unfolding semiAxes semiAxesCIELAB semiAxesCIE94 semiAxesCMC semiAxisC94 semiAxisH94
+  semi-axes-at-least CIELAB R = record { SL = omega arith; SC = omega arith; SH = omega arith }
+  semi-axes-at-least CIE94 R = record { SL = omega arith; SC = omega (arith, unit-le); SH = omega (arith, unit-le) }
+  semi-axes-at-least CMC R =
       let sc = le-semiAxisC n (chromaOf R) in
       record {
         SL = omega (arith, unit-le, le-semiAxisL n (R .L));
         SC = omega (arith, unit-le, sc);
-        SH = le-seven-hueAxis (R .a) (R .b) (semiAxisC n (chromaOf R)) (omega (arith, unit-le, sc));
+        SH = le-seven-hueSemiAxis (R .a) (R .b) (semiAxisC n (chromaOf R)) (omega (arith, unit-le, sc));
       }
 
 -- ---- no divisor of the sheet is 0: each `/`, `÷` of `Sheet.antt` that is not by a number written there
@@ -154,19 +146,19 @@ pub record Divisors (n : ℕ) (f : Formula) (l c : ℕ) (R : Lab) : Type 0 where
   pub F : 0 < hueW n (hueQ n (R .a) (R .b))
   pub T : 0 < square (R .a) + square (R .b) → 0 < 1000000000 * chromaOf R
   pub P-and-SH : 0 < 2 ^ n
-  pub DL : 0 < counted f l * semiAxes n f R .SL
-  pub DC : 0 < counted f c * semiAxes n f R .SC
+  pub DL : 0 < factorUnder f l * semiAxes n f R .SL
+  pub DC : 0 < factorUnder f c * semiAxes n f R .SC
   pub DH : 0 < semiAxes n f R .SH
 
-counted-pos : (f : Formula) {l : ℕ} → Weight l → 0 < counted f l
-counted-pos CIELAB h = omega arith
-counted-pos CIE94 h = omega arith
-counted-pos CMC h = omega arith
+factorUnder-pos : (f : Formula) {l : ℕ} → Factor l → 0 < factorUnder f l
+factorUnder-pos CIELAB h = omega arith
+factorUnder-pos CIE94 h = omega arith
+factorUnder-pos CMC h = omega arith
 
-pub divisors : (n : ℕ) → 20 ≤ n → (f : Formula) {l c : ℕ} → Weight l → Weight c → (R : Lab) → Divisors n f l c R
+pub divisors : (n : ℕ) → 20 ≤ n → (f : Formula) {l c : ℕ} → Factor l → Factor c → (R : Lab) → Divisors n f l c R
 divisors n from20 f hl hc R =
     let u = pow-pos n in
-    let s = axes-at-least n from20 f R in
+    let s = semi-axes-at-least n from20 f R in
     record {
       SL = omega arith;
       SC = omega arith;
@@ -174,8 +166,8 @@ divisors n from20 f hl hc R =
       F = hueW-pos n (hueQ n (R .a) (R .b));
       T = λ some. omega (arith, chroma-pos (R .a) (R .b) some);
       P-and-SH = u;
-      DL = mul-pos (counted-pos f hl) (omega arith);
-      DC = mul-pos (counted-pos f hc) (omega arith);
+      DL = mul-pos (factorUnder-pos f hl) (omega arith);
+      DC = mul-pos (factorUnder-pos f hc) (omega arith);
       DH = omega arith;
     }
 

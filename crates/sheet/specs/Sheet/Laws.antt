@@ -1,6 +1,6 @@
 -- The laws of the sheet's quantities: what a caller cites, so that no other file opens a definition. Assumes nothing.
 use mathlib.Core.Path.{_≡_, refl, sym, ap, _∙_}
-use mathlib.Core.Bool.{Bool, true, false}
+use mathlib.Core.Bool.{Bool, true, false, cond}
 use mathlib.Core.Logic.{_⊎_, inl, inr}
 use Prim.Native.Nat.{ℕ, _+_, _-_, _*_, _/_, _^_, _≤_, _<_}
 use native.Mathlib.Nat.{eq-zero-or-pos, mul-pos, mul-le-mul, mul-le-mul-left, mul-le-mul-right, lt-of-mul-lt-mul-right, div-mul-le-self}
@@ -12,14 +12,14 @@ use borrow.Author.Tests.{lt-ltb, le-ltb, le-leb, lt-leb, ne-eqb}
 use lib.Dec.{eqb}
 use lib.IntN.{ℤ, pos}
 use Rattle.rounding.specs.Fraction.{le-div, div-le}
-use Rattle.rounding.specs.Root.Laws.{le-root, root-lt, sq, sqrt-low}
+use Rattle.rounding.specs.Root.Laws.{le-root, root-lt, root-at, sq, sqrt-low}
 use Rattle.rounding.specs.Signed.Difference.{diff-abs, diff-sub, diff-parts}
 use Rattle.rounding.specs.Signed.Laws.{abs-add-le, abs-sub-le, abs-mul, abs-quotient}
-use Rattle.rounding.specs.Signed.{∣_∣, square, _·_}
+use Rattle.rounding.specs.Signed.{∣_∣, square, minus, signed, _·_}
 use Rattle.colour.specs.Conversion.{Lab}
 use Rattle.sheet.specs.Ranges.{Both}
-use Rattle.sheet.specs.Sheet.{chroma, chromaOf, semiAxisL, semiAxisC, hueQ, hueW, hueF, secondForm, hueM, hueT, hueP, hueG, semiAxisH, hueAxis}
-use Rattle.sheet.specs.Sheet.{axesCIELAB, axesCIE94, axesCMC, semiAxes, change, weighted, weightedH, compared}
+use Rattle.sheet.specs.Sheet.{chroma, chromaOf, sameHue, hueChange, semiAxisL, semiAxisC, hueQ, hueW, hueF, secondForm, hueM, hueT, hueP, hueG, semiAxisH, hueSemiAxis}
+use Rattle.sheet.specs.Sheet.{semiAxesCIELAB, semiAxesCIE94, semiAxesCMC, semiAxes, change, component, componentH, compared, verdict, differenceOn, toleranceOn, verdictOn}
 use Rattle.sheet.specs.declared.formula.Formula.{Formula}
 use Rattle.sheet.specs.declared.formula.Formula.the-variants.{CIELAB, CIE94, CMC}
 use Rattle.sheet.specs.declared.verdict.Verdict.the-variants.{Near, Pass, Fail}
@@ -185,17 +185,17 @@ semiAxisH-one n SC = sym (mul-div-cancel SC (pow-pos n))
 -- ---- lines 5 to 7 together
 
 module _ (n : ℕ) (a b : ℤ) (C SC : ℕ) where
-  pub hueAxis-neutral : square a + square b ≡ 0 → hueAxis n a b C SC ≡ SC
-  unfolding hueAxis
-  hueAxis-neutral h = rw h
+  pub hueSemiAxis-neutral : square a + square b ≡ 0 → hueSemiAxis n a b C SC ≡ SC
+  unfolding hueSemiAxis
+  hueSemiAxis-neutral h = rw h
 
-  pub hueAxis-chromatic :
+  pub hueSemiAxis-chromatic :
       0 < square a + square b →
       let F : ℕ = hueF n (hueQ n a b) (hueW n (hueQ n a b)) in
       let T : ℕ = hueT n (secondForm a b) (hueM (secondForm a b) a b) C in
-      hueAxis n a b C SC ≡ semiAxisH n SC (hueG n (hueP n F T) F)
-  unfolding hueAxis
-  hueAxis-chromatic h = rw (pos-eqb _ h)
+      hueSemiAxis n a b C SC ≡ semiAxisH n SC (hueG n (hueP n F T) F)
+  unfolding hueSemiAxis
+  hueSemiAxis-chromatic h = rw (pos-eqb _ h)
     where
       pos-eqb : (x : ℕ) → 0 < x → eqb x 0 ≡ false
       pos-eqb x h = ne-eqb x 0 (λ e. omega arith)
@@ -205,14 +205,14 @@ pub record ByG (n : ℕ) (a b : ℤ) (SC : ℕ) : Type 0 where
   pub G : ℕ
   pub low : 36 * 2 ^ n / 100 ≤ G
   pub high : G ≤ 2 ^ n
-  pub is : hueAxis n a b (chroma a b) SC ≡ semiAxisH n SC G
+  pub is : hueSemiAxis n a b (chroma a b) SC ≡ semiAxisH n SC G
 
-pub hueAxis-by-G : (n : ℕ) (a b : ℤ) (SC : ℕ) → ByG n a b SC
-hueAxis-by-G n a b SC = either (eq-zero-or-pos (square a + square b))
+pub hueSemiAxis-by-G : (n : ℕ) (a b : ℤ) (SC : ℕ) → ByG n a b SC
+hueSemiAxis-by-G n a b SC = either (eq-zero-or-pos (square a + square b))
   where
     either : (square a + square b ≡ 0) ⊎ (0 < square a + square b) → ByG n a b SC
     either (inl z) =
-        record { G = 2 ^ n; low = omega arith; high = le-refl (2 ^ n); is = hueAxis-neutral n a b (chroma a b) SC z ∙ semiAxisH-one n SC }
+        record { G = 2 ^ n; low = omega arith; high = le-refl (2 ^ n); is = hueSemiAxis-neutral n a b (chroma a b) SC z ∙ semiAxisH-one n SC }
     either (inr p) =
         let s : Bool = secondForm a b in
         let F≤1 = hueF-le n (hueQ n a b) in
@@ -222,16 +222,16 @@ hueAxis-by-G n a b SC = either (eq-zero-or-pos (square a + square b))
           G = _;
           low = le-trans (le-hueT n (hueM s a b) (chroma a b) C>0 s) (le-hueG n F≤1 T≤1);
           high = hueG-le n F≤1 T≤1;
-          is = hueAxis-chromatic n a b (chroma a b) SC p;
+          is = hueSemiAxis-chromatic n a b (chroma a b) SC p;
         }
 
 -- ---- the semi-axes hold the reference's C, whatever the formula
 
-pub axes-C : (n : ℕ) (f : Formula) (R : Lab) → semiAxes n f R .C ≡ chromaOf R
-unfolding semiAxes axesCIELAB axesCIE94 axesCMC
-axes-C n CIELAB R = refl
-axes-C n CIE94 R = refl
-axes-C n CMC R = refl
+pub semi-axes-C : (n : ℕ) (f : Formula) (R : Lab) → semiAxes n f R .C ≡ chromaOf R
+unfolding semiAxes semiAxesCIELAB semiAxesCIE94 semiAxesCMC
+semi-axes-C n CIELAB R = refl
+semi-axes-C n CIE94 R = refl
+semi-axes-C n CMC R = refl
 
 -- ---- lines 1 and 2: the shift between two colours
 
@@ -241,15 +241,25 @@ abs-change R T = omega (arith, diff-abs (diff-sub (diff-parts (pos T)) (diff-par
 pub change-le : (m : ℕ) {R T : ℕ} → R ≤ m → T ≤ m → ∣ change R T ∣ ≤ m
 change-le m {R} {T} h g = omega (arith, abs-change R T)
 
+-- no change where ΔC² is not below D²
+pub hueChange-zero : (D² : ℕ) (ΔC x y : ℤ) → D² ≤ square ΔC → hueChange D² ΔC x y ≡ pos 0
+unfolding hueChange
+hueChange-zero D² ΔC x y h = let none : D² - square ΔC ≡ 0 = omega arith in rw (none, root-at 2 0 0 tt tt tt) (either (sameHue x y) (minus x))
+  where
+    either : (same below : Bool) → cond same (pos 0) (signed below 0) ≡ pos 0
+    either true below = refl
+    either false true = refl
+    either false false = refl
+
 -- ---- line 8: magnitudes
 
-pub abs-weighted : (n l S : ℕ) (Δ : ℤ) → ∣ weighted n l S Δ ∣ ≡ 1000 * 2 ^ n * ∣ Δ ∣ / (l * S)
-unfolding weighted
-abs-weighted n l S Δ = abs-quotient (1000 * 2 ^ n) (l * S) Δ (omega (arith, pow-pos n))
+pub abs-component : (n l S : ℕ) (Δ : ℤ) → ∣ component n l S Δ ∣ ≡ 1000 * 2 ^ n * ∣ Δ ∣ / (l * S)
+unfolding component
+abs-component n l S Δ = abs-quotient (1000 * 2 ^ n) (l * S) Δ (omega (arith, pow-pos n))
 
-pub abs-weightedH : (n S : ℕ) (Δ : ℤ) → ∣ weightedH n S Δ ∣ ≡ 2 ^ n * ∣ Δ ∣ / S
-unfolding weightedH
-abs-weightedH n S Δ = abs-quotient (2 ^ n) S Δ (pow-pos n)
+pub abs-componentH : (n S : ℕ) (Δ : ℤ) → ∣ componentH n S Δ ∣ ≡ 2 ^ n * ∣ Δ ∣ / S
+unfolding componentH
+abs-componentH n S Δ = abs-quotient (2 ^ n) S Δ (pow-pos n)
 
 -- ---- the verdict: which of the three it is, by the places of DE and the tolerance
 
@@ -265,3 +275,10 @@ module _ (n tolerance DE : ℕ) where
   pub compared-fail : 2 * 2 ^ n < ∣ change tolerance DE ∣ → tolerance ≤ DE → compared n tolerance DE ≡ Fail
   unfolding compared
   compared-fail h g = rw (lt-leb _ _ h, le-ltb _ _ g)
+
+-- a tolerance and a DE of one formula are compared, whichever it is
+pub one-scale : (n : ℕ) (f : Formula) (tolerance DE : ℕ) → verdictOn n (toleranceOn n f tolerance) (differenceOn f DE) ≡ verdict n tolerance DE
+unfolding verdictOn verdict
+one-scale n CIELAB tolerance DE = refl
+one-scale n CIE94 tolerance DE = refl
+one-scale n CMC tolerance DE = refl

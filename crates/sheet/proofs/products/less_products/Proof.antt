@@ -1,4 +1,4 @@
--- `products::less_products` meets its contract: both products and their difference fit (`Fits.antt`). Assumes nothing.
+-- `products::less_products` meets its contract: both products fit, and one less the other (`Fits.antt`). Assumes nothing.
 use mir.Facts.{toZ-ofZ}
 use Rattle.sheet.proofs.Fits.{mul-fits, sub-fits}
 use Rattle.sheet.proofs.products.less_products.Statement.{statement}

@@ -1,0 +1,2 @@
+-- What the contracts of `comparison` ask.
+pub mod Ranges

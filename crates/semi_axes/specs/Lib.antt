@@ -1,0 +1,2 @@
+-- What the contracts of `semi_axes` ask.
+pub mod Ranges
