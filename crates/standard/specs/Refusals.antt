@@ -1,53 +1,46 @@
--- 01-scope.md, "Refusal numbers": the one order in which a call's faults are looked for. Every contract of a call cites `refusal`. Assumes nothing.
-use mathlib.Core.Bool.{Bool, not, cond}
-use mathlib.Core.List.{List, [], _∷_}
+-- 01-scope.md, "Refusal numbers": the one order in which a call's faults are looked for. A call lists the faults that it can have, each at its place;
+-- the number of every call is `refusal` of its list. Assumes nothing.
+use mathlib.Core.Bool.{Bool, cond}
+use mathlib.Core.List.{List, [], _∷_, map}
 use Prim.Native.Nat.{ℕ}
 use lib.Dec.{eqb}
-use Rattle.standard.specs.Standard.{within}
 pub mod Laws
 
--- a call's faults: each 01's number for it, or 0 where there is none. What a call cannot have is 0
-pub record Faults : Type 0 where
-  pub text : ℕ
-  pub station : ℕ
-  pub formula : ℕ
-  pub white : ℕ
-  pub l : ℕ
-  pub c : ℕ
-  pub tolerance : ℕ
-  pub reference : ℕ
-  pub test : ℕ
-  pub room : ℕ
+-- where a fault can be
+pub data Place : Type 0 where
+  atText atStation atFormula atWhite atL atC atTolerance atReference atTest atRoom : Place
+  deriving Discrete as place-discrete
 
--- the first of two that is not 0, or 0
+-- THE ONE ORDER: 7, 9, 1, 2, 3 for l, 3 for c, 4, the reference's 5, 6 or 8, the test specimen's 5, 6 or 8, 10
+abbrev pub order : List Place
+order = atText ∷ atStation ∷ atFormula ∷ atWhite ∷ atL ∷ atC ∷ atTolerance ∷ atReference ∷ atTest ∷ atRoom ∷ []
+
+-- 01's number for a fault, or 0 where there is none
+pub record Fault : Type 0 where
+  pub place : Place
+  pub number : ℕ
+
+-- number n where the fault is there
+abbrev pub fault : Place → (n : ℕ) (there : Bool) → Fault
+fault p n there = record { place = p; number = cond there n 0 }
+
+-- n where it is so, m where it is not
+abbrev pub either : {A : Type 0} → Dec A → (n m : ℕ) → ℕ
+either (yes e) n m = n
+either (no e) n m = m
+
+-- what stands at a place of the list, 0 if nothing does
+unfoldable pub numberAt : List Fault → Place → ℕ
+numberAt [] p = 0
+numberAt (f ∷ fs) p = either (place-discrete p (f .place)) (f .number) (numberAt fs p)
+
+-- the first of two numbers that is not 0, or 0
 abbrev pub first : (n m : ℕ) → ℕ
 first n m = cond (eqb n 0) m n
 
--- and of a list
 unfoldable pub firstOf : List ℕ → ℕ
 firstOf [] = 0
 firstOf (n ∷ ns) = first n (firstOf ns)
 
--- 7, 9, 1, 2, 3 for l, 3 for c, 4, the reference's 5, 6 or 8, the test specimen's 5, 6 or 8, 10
-unfoldable pub refusal : Faults → ℕ
-refusal f =
-    firstOf (f .text ∷ f .station ∷ f .formula ∷ f .white ∷ f .l ∷ f .c ∷ f .tolerance ∷ f .reference ∷ f .test ∷ f .room ∷ [])
-
--- ---- the faults
-
--- number n where the fault is there
-abbrev pub fault : (n : ℕ) (there : Bool) → ℕ
-fault n there = cond there n 0
-
-abbrev pub formulaFault : ℕ → ℕ
-formulaFault formula = fault 1 (not (within 1 3 formula))
-
-abbrev pub whiteFault : ℕ → ℕ
-whiteFault white = fault 2 (not (within 1 4 white))
-
--- of l, and of c
-abbrev pub weightFault : ℕ → ℕ
-weightFault l = fault 3 (not (within 500 10000 l))
-
-abbrev pub toleranceFault : ℕ → ℕ
-toleranceFault tolerance = fault 4 (not (within 100 10000 tolerance))
+unfoldable pub refusal : List Fault → ℕ
+refusal fs = firstOf (map (numberAt fs) order)

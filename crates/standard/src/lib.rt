@@ -1,4 +1,4 @@
-// The standard that a station holds: loaded, and judged by. The station is a value here, and no text is written.
-pub mod held;
+// A standard accepted, a test specimen judged by it, and what both hand back as floats. A reading comes here as its place on the grid.
+pub mod accept;
+pub mod figures;
 pub mod judge;
-pub mod load;

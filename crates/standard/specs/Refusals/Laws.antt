@@ -1,13 +1,15 @@
--- What callers use of the order: the first fault of a list, by parts of the list; and that it is just that. Assumes nothing.
+-- What callers use of the order: the first of a list of numbers, by parts of the list; that a lent slice's fault comes last; and that a number is given
+-- exactly where its place has it and no earlier place has one. Assumes nothing.
 use mathlib.Core.Path.{_≡_, refl, sym, ap, _∙_}
-use mathlib.Core.Bool.{Bool, true, false, not, cond}
-use mathlib.Core.List.{List, [], _∷_, _++_}
+use mathlib.Core.Bool.{Bool, true, false, cond}
+use mathlib.Core.List.{List, [], _∷_, _++_, map}
 use Prim.Native.Nat.{ℕ}
 use borrow.Author.Tests.{eqb-true, eqb-false, ne-eqb}
 use lib.Dec.{eqb}
-use Rattle.standard.specs.Refusals.{first, firstOf, fault}
+use Rattle.standard.specs.Refusals.{Place, atText, atStation, atFormula, atWhite, atL, atC, atTolerance, atReference, atTest, atRoom}
+use Rattle.standard.specs.Refusals.{place-discrete, order, Fault, either, numberAt, first, firstOf, refusal}
 
--- ---- by parts
+-- ---- the first of two, and of a list
 
 pub first-zero : (n : ℕ) → first n 0 ≡ n
 first-zero n = go (eqb n 0) refl
@@ -16,14 +18,9 @@ first-zero n = go (eqb n 0) refl
     go true e = sym (eqb-true n 0 e)
     go false e = refl
 
-pub first-assoc : (n m k : ℕ) → first n (first m k) ≡ first (first n m) k
-first-assoc n m k = go (eqb n 0) refl
-  where
-    go : (b : Bool) → eqb n 0 ≡ b → cond b (first m k) n ≡ first (cond b m n) k
-    go true e = refl
-    go false e = rw e
+pub first-some : {n : ℕ} (m : ℕ) → (n ≡ 0 → ⊥) → first n m ≡ n
+first-some {n} m h = rw (ne-eqb n 0 h)
 
--- none of two
 pub first-none : (n m : ℕ) → first n m ≡ 0 → (n ≡ 0) × (m ≡ 0)
 first-none n m = go (eqb n 0) refl
   where
@@ -43,54 +40,88 @@ firstOf-append (m ∷ ms) ns = go (eqb m 0) refl (firstOf-append ms ns)
     go true e rest = rest
     go false e rest = rw e
 
--- the last of a list, where there is none before it
-pub firstOf-last : (ns : List ℕ) (k : ℕ) → firstOf (ns ++ (k ∷ [])) ≡ first (firstOf (ns ++ (0 ∷ []))) k
+-- ---- the order
+
+-- 01's order, whatever order the faults are listed in
+pub in-order :
+    (text station formula white l c tolerance reference test room : ℕ) →
+    refusal
+    (record { place = atRoom; number = room } ∷ record { place = atTest; number = test } ∷ record { place = atReference; number = reference }
+    ∷ record { place = atTolerance; number = tolerance } ∷ record { place = atC; number = c } ∷ record { place = atL; number = l }
+    ∷ record { place = atWhite; number = white } ∷ record { place = atFormula; number = formula } ∷ record { place = atStation; number = station }
+    ∷ record { place = atText; number = text } ∷ [])
+    ≡ firstOf (text ∷ station ∷ formula ∷ white ∷ l ∷ c ∷ tolerance ∷ reference ∷ test ∷ room ∷ [])
+unfolding refusal numberAt
+in-order text station formula white l c tolerance reference test room = refl
+
+-- a lent slice's fault comes after all others of its list
+pub refusal-room : (fs : List Fault) (n : ℕ) → numberAt fs atRoom ≡ 0 → refusal (record { place = atRoom; number = n } ∷ fs) ≡ first (refusal fs) n
+unfolding refusal numberAt firstOf
+refusal-room fs n none =
+    let others : List ℕ = map (numberAt fs) (atText ∷ atStation ∷ atFormula ∷ atWhite ∷ atL ∷ atC ∷ atTolerance ∷ atReference ∷ atTest ∷ []) in
+    let without : refusal fs ≡ firstOf others =
+    firstOf-append others (numberAt fs atRoom ∷ []) ∙ ap (first (firstOf others)) (first-zero _ ∙ none) ∙ first-zero (firstOf others) in
+    firstOf-append others (n ∷ []) ∙ ap (first (firstOf others)) (first-zero n) ∙ ap (λ (m : ℕ). first m n) (sym without)
+
+-- ---- what a number means
+
+-- p is the first of the places at which something stands
+pub data FirstAt (fs : List Fault) (p : Place) : List Place → Type 0 where
+  here : {ps : List Place} → (numberAt fs p ≡ 0 → ⊥) → FirstAt fs p (p ∷ ps)
+  later : {q : Place} {ps : List Place} → numberAt fs q ≡ 0 → FirstAt fs p ps → FirstAt fs p (q ∷ ps)
+
+-- A NUMBER IS GIVEN EXACTLY WHERE ITS PLACE HAS IT AND NO EARLIER PLACE HAS ONE
+given : (fs : List Fault) {p : Place} {ps : List Place} → FirstAt fs p ps → firstOf (map (numberAt fs) ps) ≡ numberAt fs p
 unfolding firstOf
-firstOf-last ns k =
-    let before : firstOf (ns ++ (0 ∷ [])) ≡ firstOf ns = firstOf-append ns (0 ∷ []) ∙ first-zero (firstOf ns) in
-    firstOf-append ns (k ∷ []) ∙ ap (first (firstOf ns)) (first-zero k) ∙ ap (λ (n : ℕ). first n k) (sym before)
+given fs (here h) = first-some _ h
+given fs (later z f) = rw z (given fs f)
 
--- there is none
-pub firstOf-nothing : firstOf [] ≡ 0
+pub refusal-given : (fs : List Fault) {p : Place} → FirstAt fs p order → refusal fs ≡ numberAt fs p
+unfolding refusal
+refusal-given fs f = given fs f
+
+first-at : (fs : List Fault) (ps : List Place) → (firstOf (map (numberAt fs) ps) ≡ 0 → ⊥) → (p : Place) × FirstAt fs p ps
 unfolding firstOf
-firstOf-nothing = refl
-
-pub firstOf-none : (n : ℕ) (ns : List ℕ) → firstOf (n ∷ ns) ≡ 0 → (n ≡ 0) × (firstOf ns ≡ 0)
-unfolding firstOf
-firstOf-none n ns h = first-none n (firstOf ns) h
-
--- ---- a test that a fault goes by
-
-module _ {p : Bool} (n : ℕ) (ns : List ℕ) where
-  pub firstOf-fault : p ≡ false → (n ≡ 0 → ⊥) → firstOf (fault n (not p) ∷ ns) ≡ n
-  unfolding firstOf
-  firstOf-fault h z = rw (h, ne-eqb n 0 z)
-
-  pub firstOf-no-fault : p ≡ true → firstOf (fault n (not p) ∷ ns) ≡ firstOf ns
-  unfolding firstOf
-  firstOf-no-fault h = rw h
-
-pub no-fault : (p : Bool) {n : ℕ} → (n ≡ 0 → ⊥) → fault n (not p) ≡ 0 → p ≡ true
-no-fault true z h = refl
-no-fault false z h = absurd (z h)
-
--- ---- a number is given exactly where it is there and none before it
-
--- n is not 0 and stands in the list, with nothing but 0 before it
-pub data First : (n : ℕ) → List ℕ → Type 0 where
-  here : {n : ℕ} {ns : List ℕ} → (n ≡ 0 → ⊥) → First n (n ∷ ns)
-  later : {n : ℕ} {ns : List ℕ} → First n ns → First n (0 ∷ ns)
-
-pub first-given : {n : ℕ} {ns : List ℕ} → First n ns → firstOf ns ≡ n
-unfolding firstOf
-first-given (here {n} h) = rw (ne-eqb n 0 h)
-first-given (later f) = first-given f
-
-pub given-first : (ns : List ℕ) {n : ℕ} → firstOf ns ≡ n → (n ≡ 0 → ⊥) → First n ns
-unfolding firstOf
-given-first [] e h = absurd (h (sym e))
-given-first (m ∷ ms) {n} e h = go (eqb m 0) refl e (λ g. given-first ms g h)
+first-at fs [] h = absurd (h refl)
+first-at fs (p ∷ ps) h = go (eqb (numberAt fs p) 0) refl h (first-at fs ps)
   where
-    go : (b : Bool) → eqb m 0 ≡ b → cond b (firstOf ms) m ≡ n → (firstOf ms ≡ n → First n ms) → First n (m ∷ ms)
-    go true z g rest = rw (eqb-true m 0 z) (later (rest g))
-    go false z g rest = rw g (here h)
+    go :
+        (b : Bool) → eqb (numberAt fs p) 0 ≡ b → (cond b (firstOf (map (numberAt fs) ps)) (numberAt fs p) ≡ 0 → ⊥) →
+        ((firstOf (map (numberAt fs) ps) ≡ 0 → ⊥) → (q : Place) × FirstAt fs q ps) → (q : Place) × FirstAt fs q (p ∷ ps)
+    go true z some rest = let (q, f) = rest some in (q, later (eqb-true _ 0 z) f)
+    go false z some rest = (p, here (eqb-false _ 0 z))
+
+pub refusal-first : (fs : List Fault) → (refusal fs ≡ 0 → ⊥) → (p : Place) × FirstAt fs p order
+unfolding refusal
+refusal-first fs h = first-at fs order h
+
+-- what holds of 0 and of every number of the list holds of the number that is given
+pub data Each (Q : ℕ → Type 0) : List Fault → Type 0 where
+  none : Each Q []
+  more : {f : Fault} {fs : List Fault} → Q (f .number) → Each Q fs → Each Q (f ∷ fs)
+
+module _ (Q : ℕ → Type 0) (zero : Q 0) where
+  number-keeps : {fs : List Fault} → Each Q fs → (p : Place) → Q (numberAt fs p)
+  unfolding numberAt
+  number-keeps none p = zero
+  number-keeps (more {f} {fs} q qs) p = go (place-discrete p (f .place)) (number-keeps qs p)
+    where
+      go : {A : Type 0} (d : Dec A) → Q (numberAt fs p) → Q (either d (f .number) (numberAt fs p))
+      go (yes e) rest = q
+      go (no e) rest = rest
+
+  first-keeps : {n m : ℕ} → Q n → Q m → Q (first n m)
+  first-keeps {n} {m} p q = go (eqb n 0)
+    where
+      go : (b : Bool) → Q (cond b m n)
+      go true = q
+      go false = p
+
+  places-keep : {fs : List Fault} → Each Q fs → (ps : List Place) → Q (firstOf (map (numberAt fs) ps))
+  unfolding firstOf
+  places-keep qs [] = zero
+  places-keep qs (p ∷ ps) = first-keeps (number-keeps qs p) (places-keep qs ps)
+
+  pub refusal-keeps : {fs : List Fault} → Each Q fs → Q (refusal fs)
+  unfolding refusal
+  refusal-keeps qs = places-keep qs order

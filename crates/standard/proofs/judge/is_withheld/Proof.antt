@@ -2,7 +2,7 @@
 use mathlib.Core.Path.{sym, ap, _∙_}
 use borrow.Author.Needs.{needs}
 use Rattle.sheet.specs.declared.formula.Formula.{Formula}
-use Rattle.standard.specs.Station.{withheldBy}
+use Rattle.standard.specs.Judgement.{withheldBy}
 use Rattle.standard.proofs.judge.is_withheld.Statement.{statement}
 use Rattle.standard.proofs.judge.is_withheld.Tie as tie
 

@@ -1,4 +1,4 @@
--- `judge::judgement_of` meets its contract: the sheet, the names and the verdict, a part a call; DE is small enough for the verdict. Assumes nothing.
+-- `judge::judgement_of` meets its contract: the sheet, the names and the verdict, a part a call. Assumes nothing.
 use mathlib.Core.Path.{_≡_}
 use mathlib.Core.Bool.{Bool}
 use borrow.Author.Needs.{needs}
@@ -6,39 +6,53 @@ use lib.IntN.{ℤ}
 use mir.Syntax.{w64}
 use mir.Val.{toZ, ofZ}
 use Rattle.colour.specs.declared.conversion.GridColour.{GridColour}
-use Rattle.sheet.specs.Sheet.{comparison, verdict}
-use Rattle.sheet.specs.Sheet.Bounds.{sheet-DE-lt}
-use Rattle.sheet.specs.declared.difference.Comparison.{Comparison}
+use Rattle.sheet.specs.Sheet.{comparison, toleranceOn, verdictOn}
+use Rattle.sheet.specs.declared.comparison.Comparison.{Comparison}
+use Rattle.sheet.specs.declared.scaled.Scaled.{Scaled}
 use Rattle.sheet.specs.declared.verdict.Verdict.{Verdict}
-use Rattle.names.specs.Names.{lightnessName, chromaName, hueName}
+use Rattle.names.specs.Names.{lightnessName, chromaName, hueNamed, hueName}
+use Rattle.names.specs.Names.Laws.{hue-of-comparison}
 use Rattle.names.specs.declared.Lightness.{Lightness}
 use Rattle.names.specs.declared.Chroma.{Chroma}
 use Rattle.names.specs.declared.Hue.{Hue}
-use Rattle.standard.specs.declared.held.Standard.{Standard}
+use Rattle.standard.specs.declared.accept.Standard.{Standard}
 use Rattle.standard.specs.declared.judge.Judgement.{Judgement}
-use Rattle.standard.specs.Station.{withheldBy, judgementOf}
+use Rattle.standard.specs.Judgement.{withheldBy, judgementOf}
 use Rattle.standard.proofs.judge.judgement_of.Statement.{statement}
 use Rattle.standard.proofs.judge.judgement_of.Tie as tie
 
--- the judgement from its parts
-judgement-is :
-    (s : Standard) (T : GridColour) {k : Comparison} {l c : ℤ} {lightness : Lightness} {chroma : Chroma} {hue : Hue} {v : Verdict} {w : Bool} →
-    k ≡ comparison 20 (s .formula) (s .l) (s .c) (s .colour) T →
-    l ≡ k .shift .L → lightness ≡ lightnessName l →
-    c ≡ k .shift .C → chroma ≡ chromaName c →
-    hue ≡ hueName (s .colour) T →
-    v ≡ verdict 20 (s .tolerance) (k .differences .DE) →
-    w ≡ withheldBy (s .formula) (s .colour) →
-    _≡_ {A = Judgement}
-    (record { standard = s; test = T; comparison = k; lightness = lightness; chroma = chroma; hue = hue; verdict = v; withheld = w })
-    (judgementOf s T)
-unfolding judgementOf
-judgement-is s T hk hl hlightness hc hchroma hh hv hw = cc
+module _ (s : Standard) (T : GridColour) {k : Comparison} (hk : k ≡ comparison 20 (s .settings .formula) (s .settings .l) (s .settings .c) (s .colour) T) where
+  -- the cross and the dot of the sheet name the hue
+  hue-is :
+      {x y a b : ℤ} {hue : Hue} → x ≡ k .cross → y ≡ k .dot → a ≡ s .colour .a .0 → b ≡ s .colour .b .0 → hue ≡ hueNamed x y a b →
+      hue ≡ hueName (s .colour) T
+  hue-is hx hy ha hb h = rw (h, hx, hy, ha, hb, hk) (hue-of-comparison 20 _ _ _ (s .colour) T)
+
+  -- the judgement from its parts
+  judgement-is :
+      {l c : ℤ} {lightness : Lightness} {chroma : Chroma} {hue : Hue} {t : Scaled} {v : Verdict} {w : Bool} →
+      l ≡ k .shift .L → lightness ≡ lightnessName l →
+      c ≡ k .shift .C → chroma ≡ chromaName c →
+      hue ≡ hueName (s .colour) T →
+      t ≡ toleranceOn 20 (s .settings .formula) (s .settings .tolerance) → v ≡ verdictOn 20 t (k .scaled) →
+      w ≡ withheldBy (s .settings .formula) (s .colour) →
+      _≡_ {A = Judgement}
+      (record { standard = s; test = T; comparison = k; lightness = lightness; chroma = chroma; hue = hue; verdict = v; withheld = w })
+      (judgementOf s T)
+  unfolding judgementOf
+  judgement-is hl hlightness hc hchroma hh ht hv hw = cc
+
+module _ (c : tie.After-comparison-of) where
+  L-back : toZ w64 (ofZ w64 (c .comparison-of .result .shift .L)) ≡ c .comparison-of .result .shift .L
+  L-back = search needs
+
+  C-back : toZ w64 (ofZ w64 (c .comparison-of .result .shift .C)) ≡ c .comparison-of .result .shift .C
+  C-back = search needs
 
 -- ---- the places that the answers speak of, seen from where the hue is named
 module _ (c : tie.After-hue-name) where
   abbrev at-chroma : tie.After-chroma-name
-  at-chroma = c .before
+  at-chroma = let told : tie.After-struct-told4 = c .before .before .before in told .before .before
 
   abbrev at-lightness : tie.After-lightness-name
   at-lightness = at-chroma .before .before
@@ -47,25 +61,30 @@ module _ (c : tie.After-hue-name) where
   at-sheet = at-lightness .before .before
 
   abbrev start : tie.Start
-  start = at-sheet .before .before
+  start = let at-colour : tie.After-colour = at-sheet .before in at-colour .before .before
 
-  L-back : toZ w64 (ofZ w64 (at-sheet .comparison-of .result .shift .L)) ≡ at-sheet .comparison-of .result .shift .L
-  L-back = search needs
+  abbrev found : Comparison
+  found = at-sheet .comparison-of .result
 
-  C-back : toZ w64 (ofZ w64 (at-sheet .comparison-of .result .shift .C)) ≡ at-sheet .comparison-of .result .shift .C
-  C-back = search needs
+  abbrev R : GridColour
+  R = start .args .s .colour
+
+  named : c .hue-name .result ≡ hueName R (start .args .t)
+  named =
+      let cross : toZ w64 (ofZ w64 (found .cross)) ≡ found .cross = search needs in
+      let dot : toZ w64 (ofZ w64 (found .dot)) ≡ found .dot = search needs in
+      let a : toZ w64 (ofZ w64 (R .a .0)) ≡ R .a .0 = search needs in
+      let b : toZ w64 (ofZ w64 (R .b .0)) ≡ R .b .0 = search needs in
+      hue-is (start .args .s) (start .args .t) (at-sheet .comparison-of .ensures) cross dot a b (c .hue-name .ensures)
 
 returns : tie.Need-returns
 returns c =
     let at-verdict = c .before in
-    let h = at-verdict .before in
-    judgement-is _ _ (at-sheet h .comparison-of .ensures) (L-back h) (at-lightness h .lightness-name .ensures)
-    (C-back h) (at-chroma h .chroma-name .ensures) (h .hue-name .ensures) (at-verdict .verdict-of .ensures)
+    let at-tolerance = at-verdict .before in
+    let h = at-tolerance .before in
+    judgement-is _ _ (at-sheet h .comparison-of .ensures) (L-back (at-sheet h)) (at-lightness h .lightness-name .ensures)
+    (C-back (at-sheet h)) (at-chroma h .chroma-name .ensures) (named h) (at-tolerance .tolerance .ensures) (at-verdict .verdict .ensures)
     (c .is-withheld .ensures)
-
-DE-fits : tie.Need-verdict-of-requires
-unfolding comparison
-DE-fits c κs = (start c .pre .tolerance, rw (at-sheet c .comparison-of .ensures) (sheet-DE-lt _ (start c .pre .range)))
 
 pub judgement-of-spec : {M : Type 1} → statement M
 judgement-of-spec =
@@ -75,6 +94,7 @@ judgement-of-spec =
     (λ c κs. search needs)
     (λ c κs. search needs)
     (λ c κs. search needs)
-    DE-fits
-    (λ c κs. start (c .before) .pre .range .reference)
+    (λ c κs. start c .pre .standard .tolerance .high)
+    (λ c κs. search needs)
+    (λ c κs. search needs)
     returns)

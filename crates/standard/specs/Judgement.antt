@@ -1,0 +1,61 @@
+-- What a judgement of a test specimen by a standard comes to. Assumes nothing.
+use mathlib.Core.Bool.{Bool, false}
+use Prim.Native.Nat.{ℕ}
+use Rattle.colour.specs.Conversion.Ranges.{OnGrid}
+use Rattle.colour.specs.declared.conversion.GridColour.{GridColour}
+use Rattle.colour.specs.declared.placed.Placed.{Placed}
+use Rattle.colour.specs.declared.placed.Placed.the-variants as P
+use Rattle.sheet.specs.Sheet.{comparison, toleranceOn, verdictOn}
+use Rattle.sheet.specs.declared.comparison.Comparison.{Comparison}
+use Rattle.sheet.specs.declared.formula.Formula.{Formula}
+use Rattle.sheet.specs.declared.formula.Formula.the-variants.{CIELAB, CIE94, CMC}
+use Rattle.sheet.specs.declared.settings.Settings.{Settings}
+use Rattle.names.specs.Names.{lightnessName, chromaName, hueName, achromatic}
+use Rattle.standard.specs.declared.accept.Standard.{Standard}
+use Rattle.standard.specs.declared.judge.Judgement.{Judgement}
+use Rattle.standard.specs.declared.judge.Outcome.{Outcome}
+use Rattle.standard.specs.declared.judge.Outcome.the-variants.{Refused, Judged}
+use Rattle.standard.specs.Acceptance.{Valid, PlacedOn}
+pub mod Laws
+
+-- the reference is achromatic, under CMC: a report then withholds DC, DH and their names
+abbrev pub withheldBy : Formula → (R : GridColour) → Bool
+withheldBy CIELAB R = false
+withheldBy CIE94 R = false
+withheldBy CMC R = achromatic R
+
+-- the sheet, the names and the verdict, all from the standard itself
+unfoldable pub judgementOf : Standard → (T : GridColour) → Judgement
+judgementOf s T =
+    let by : Settings = s .settings in
+    let found : Comparison = comparison 20 (by .formula) (by .l) (by .c) (s .colour) T in
+    record {
+      standard = s;
+      test = T;
+      comparison = found;
+      lightness = lightnessName (found .shift .L);
+      chroma = chromaName (found .shift .C);
+      hue = hueName (s .colour) T;
+      verdict = verdictOn 20 (toleranceOn 20 (by .formula) (by .tolerance)) (found .scaled);
+      withheld = withheldBy (by .formula) (s .colour);
+    }
+
+-- by the test specimen's place, or its refusal
+unfoldable pub outcome : Standard → (test : Placed) → Outcome
+outcome s (P.At T) = Judged (judgementOf s T)
+outcome s (P.Refused n) = Refused n
+
+-- 01's number of what a judgement comes to
+abbrev pub numberOf : Outcome → ℕ
+numberOf (Refused n) = n
+numberOf (Judged j) = 0
+
+-- ---- what is asked: a standard in its ranges, and a test specimen on the grid
+
+pub record Specimen (s : Standard) (T : GridColour) : Type 0 where
+  pub standard : Valid s
+  pub test : OnGrid T
+
+pub record Judgeable (s : Standard) (p : Placed) : Type 0 where
+  pub standard : Valid s
+  pub test : PlacedOn p
