@@ -1,4 +1,5 @@
 // The lines that say a number.
+use reading::grid::Grid;
 use rounding::signed::magnitude;
 use text::decimal::Shown;
 use text::decimal::decimal_len;
@@ -8,12 +9,12 @@ ghost use mathlib.Core.Path.{_≡_};
 ghost use mathlib.Core.Bool.{false};
 ghost use Prim.Native.Nat.{_≤_};
 ghost use lib.ListN.{length};
-ghost use Rattle.text.specs.Put.{Room, Puts};
 ghost use Rattle.text.specs.Decimal.{decimalText};
-ghost use Rattle.lines.specs.Lines.{thousandths, figure, signedFigure, numberLine, chromaticLine};
+ghost use Rattle.text.specs.Put.{Room, Puts, line};
+ghost use Rattle.lines.specs.Lines.{thousandths, figure, signedFigure, unlessWithheld};
 
 // m thousandths with three decimals.
-fn thousandths_of(m: u64) -> Shown
+pub fn thousandths_of(m: u64) -> Shown
     ensures { λ r. ⌜ r ≡ thousandths m ⌝ }
 {
     Shown {
@@ -25,10 +26,11 @@ fn thousandths_of(m: u64) -> Shown
 }
 
 // m units of 2^-20 with four decimals. The whole ones are taken off first, so that no product passes 64 bits.
-fn figure_of(below: bool, m: u64) -> Shown
+pub fn figure_of(below: bool, m: u64) -> Shown
     ensures { λ r. ⌜ r ≡ figure below m ⌝ }
 {
-    let units = m / 1048576 * 10000 + m % 1048576 * 10000 / 1048576;
+    let units = m / Grid::UNITS_IN_ONE * 10000
+        + m % Grid::UNITS_IN_ONE * 10000 / Grid::UNITS_IN_ONE;
     Shown {
         places: 4,
         minus: if below { 0 < units } else { false },
@@ -38,7 +40,7 @@ fn figure_of(below: bool, m: u64) -> Shown
 }
 
 // z units of 2^-20.
-fn signed_figure(z: i64) -> Shown
+pub fn signed_figure(z: i64) -> Shown
     ensures { λ r. ⌜ r ≡ signedFigure z ⌝ }
 {
     figure_of(z < 0, magnitude(z))
@@ -62,47 +64,23 @@ pub fn signed_len(z: i64) -> usize
     decimal_len(signed_figure(z))
 }
 
-fn put_number(dst: &mut [u8], at: usize, key: &[u8], d: Shown) -> usize
-    requires { ⌜ Room (now dst) at (numberLine (now key) d) ⌝ }
-    ensures { λ r. ⌜ Puts (now (dst .entry)) at (numberLine (now (key .entry)) d) r (now (dst .exit)) ⌝ }
+pub fn put_number(dst: &mut [u8], at: usize, key: &[u8], d: Shown) -> usize
+    requires { ⌜ Room (now dst) at (line (now key) (decimalText d)) ⌝ }
+    ensures { λ r. ⌜ Puts (now (dst .entry)) at (line (now (key .entry)) (decimalText d)) r (now (dst .exit)) ⌝ }
 {
     let after_key = put(dst, at, key);
     let after_number = put_decimal(dst, after_key, d);
     put(dst, after_number, b"\n")
 }
 
-// l= and c=.
-pub fn put_thousandths(dst: &mut [u8], at: usize, key: &[u8], m: u64) -> usize
-    requires { ⌜ Room (now dst) at (numberLine (now key) (thousandths m)) ⌝ }
-    ensures { λ r. ⌜ Puts (now (dst .entry)) at (numberLine (now (key .entry)) (thousandths m)) r (now (dst .exit)) ⌝ }
-{
-    put_number(dst, at, key, thousandths_of(m))
-}
-
-// DE=.
-pub fn put_figure(dst: &mut [u8], at: usize, key: &[u8], m: u64) -> usize
-    requires { ⌜ Room (now dst) at (numberLine (now key) (figure false m)) ⌝ }
-    ensures { λ r. ⌜ Puts (now (dst .entry)) at (numberLine (now (key .entry)) (figure false m)) r (now (dst .exit)) ⌝ }
-{
-    put_number(dst, at, key, figure_of(false, m))
-}
-
-// DL=.
-pub fn put_signed(dst: &mut [u8], at: usize, key: &[u8], z: i64) -> usize
-    requires { ⌜ Room (now dst) at (numberLine (now key) (signedFigure z)) ⌝ }
-    ensures { λ r. ⌜ Puts (now (dst .entry)) at (numberLine (now (key .entry)) (signedFigure z)) r (now (dst .exit)) ⌝ }
-{
-    put_number(dst, at, key, signed_figure(z))
-}
-
 // DC= and DH=.
-pub fn put_chromatic(dst: &mut [u8], at: usize, withheld: bool, key: &[u8], z: i64) -> usize
-    requires { ⌜ Room (now dst) at (chromaticLine withheld (now key) z) ⌝ }
-    ensures { λ r. ⌜ Puts (now (dst .entry)) at (chromaticLine withheld (now (key .entry)) z) r (now (dst .exit)) ⌝ }
+pub fn put_chromatic(dst: &mut [u8], at: usize, withheld: bool, key: &[u8], d: Shown) -> usize
+    requires { ⌜ Room (now dst) at (line (now key) (unlessWithheld withheld (decimalText d))) ⌝ }
+    ensures { λ r. ⌜ Puts (now (dst .entry)) at (line (now (key .entry)) (unlessWithheld withheld (decimalText d))) r (now (dst .exit)) ⌝ }
 {
     if withheld {
         let after_key = put(dst, at, key);
         return put(dst, after_key, b"withheld\n");
     }
-    put_signed(dst, at, key, z)
+    put_number(dst, at, key, d)
 }

@@ -6,23 +6,15 @@ use Prim.Native.Nat.{ℕ, _+_}
 use lib.Dec.{leb}
 use lib.ListN.{length}
 use Rattle.text.specs.Put.{putAt}
-use Rattle.report.specs.declared.report.Report.{Report}
+use Rattle.standard.specs.declared.judge.Judgement.{Judgement}
 use Rattle.report.specs.Report.{reportText}
 pub mod Laws
 
 -- whether the report ends within the room
-unfoldable pub hasRoom : (room : List ℕ) (column : ℕ) → Report → Bool
-hasRoom room column r = leb (column + length (reportText r)) (length room)
+unfoldable pub hasRoom : (room : List ℕ) (column : ℕ) → Judgement → Bool
+hasRoom room column j = leb (column + length (reportText j)) (length room)
 
--- 01's number: 10 where the room is too short
-unfoldable pub writeNumber : (room : List ℕ) (column : ℕ) → Report → ℕ
-writeNumber room column r = cond (hasRoom room column r) 0 10
-
--- the room afterwards: the report from the column on and every other byte as it was, or the room unchanged
-unfoldable pub writeRoom : (room : List ℕ) (column : ℕ) → Report → List ℕ
-writeRoom room column r = cond (hasRoom room column r) (putAt room column (reportText r)) room
-
--- the number and the room that a call leaves
-pub record Written (room : List ℕ) (column : ℕ) (r : Report) (number : ℕ) (after : List ℕ) : Type 0 where
-  pub number-is : number ≡ writeNumber room column r
-  pub room-is : after ≡ writeRoom room column r
+-- what is answered and left: 0 and the room with the report from the column on, every other byte as it was; or 10 and the room unchanged
+pub record Reported (room : List ℕ) (column : ℕ) (j : Judgement) (number : ℕ) (after : List ℕ) : Type 0 where
+  pub number-is : number ≡ cond (hasRoom room column j) 0 10
+  pub room-is : after ≡ cond (hasRoom room column j) (putAt room column (reportText j)) room

@@ -1,4 +1,4 @@
--- 01-scope.md, "Numbers": a number as a decimal. `Decimal/Laws.antt` has what callers go by; `Decimal/Value.antt` reads the digits back, and
+-- 01-scope.md, "Numbers": a number as a decimal. `Decimal/Laws.antt` has what callers go by, `Number/Written.antt` reads the digits back, and
 -- `Decimal/Cases.antt` has some figures. Assumes nothing.
 use mathlib.Core.Bool.{Bool, cond, _&&_}
 use mathlib.Core.List.{List, [], _∷_}
@@ -8,10 +8,9 @@ use Rattle.text.specs.Ascii.{ascii}
 use Rattle.text.specs.Put.{joined}
 use Rattle.text.specs.declared.decimal.Shown.{Shown}
 pub mod Laws
-pub mod Value
 pub mod Cases
 
--- m units, of which perOne make one, counted in units of 10 ^ -places: rounded down. Every number that is printed is rounded here.
+-- m units, of which perOne make one, counted in units of 10 ^ -places: rounded down. Every figure that is printed is rounded here.
 unfoldable pub shown : (places perOne m : ℕ) → ℕ
 shown places perOne m = m * 10 ^ places / perOne
 
@@ -31,25 +30,29 @@ widthIn (suc k) n = cond (ltb n 10) 1 (widthIn k (n / 10) + 1)
 abbrev pub width : ℕ → ℕ
 width n = widthIn 20 n
 
+-- a whole number, without leading zeros
+abbrev pub wholeText : ℕ → List ℕ
+wholeText n = lastDigits (width n) n
+
 -- ---- a decimal
 
 -- a minus, if one is to be shown
 abbrev pub minusSign : Bool → List ℕ
 minusSign shows = cond shows (ascii "-") []
 
--- the sign, the whole ones without leading zeros, a point, the places
+-- the sign, the whole ones, a point, the places
 abbrev pub decimalPieces : Shown → List (List ℕ)
-decimalPieces d = minusSign (d .minus) ∷ lastDigits (width (d .whole)) (d .whole) ∷ ascii "." ∷ lastDigits (d .places) (d .units) ∷ []
+decimalPieces d = minusSign (d .minus) ∷ wholeText (d .whole) ∷ ascii "." ∷ lastDigits (d .places) (d .units) ∷ []
 
 unfoldable pub decimalText : Shown → List ℕ
 decimalText d = joined (decimalPieces d)
 
--- m units, of which perOne make one, as they are shown with so many places: a minus only if a digit that is not zero is shown
+-- n units of 10 ^ -places, as they are
+abbrev pub withPlaces : (places : ℕ) (minus : Bool) (n : ℕ) → Shown
+withPlaces places minus n = record { places = places; minus = minus; whole = n / 10 ^ places; units = n }
+
+-- m units, of which perOne make one, with so many places: a minus only if a digit that is not zero is shown
 abbrev pub shownAs : (places perOne : ℕ) (below : Bool) (m : ℕ) → Shown
 shownAs places perOne below m =
     let s : ℕ = shown places perOne m in
-    record { places = places; minus = below && ltb 0 s; whole = s / 10 ^ places; units = s }
-
--- and their text
-abbrev pub decimal : (places perOne : ℕ) (below : Bool) (m : ℕ) → List ℕ
-decimal places perOne below m = decimalText (shownAs places perOne below m)
+    withPlaces places (below && ltb 0 s) s

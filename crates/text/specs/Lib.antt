@@ -5,3 +5,9 @@ pub mod Ascii
 pub mod Put
 -- numbers as decimals
 pub mod Decimal
+-- the names of formulas and whites
+pub mod Names
+-- words about bytes
+pub mod Bytes
+-- numbers in decimal digits
+pub mod Number

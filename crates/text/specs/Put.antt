@@ -3,6 +3,7 @@ use mathlib.Core.Path.{_≡_}
 use mathlib.Core.List.{List, [], _∷_, _++_}
 use Prim.Native.Nat.{ℕ, _+_, _≤_}
 use lib.ListN.{length, take, drop}
+use Rattle.text.specs.Ascii.{ascii}
 pub mod Laws
 
 -- xs with s for what stood there from index at on
@@ -23,3 +24,7 @@ pub record Puts (xs : List ℕ) (at : ℕ) (s : List ℕ) (r : ℕ) (ys : List �
 abbrev pub joined : List (List ℕ) → List ℕ
 joined [] = []
 joined (s ∷ ss) = s ++ joined ss
+
+-- a line KEY=VALUE of a ticket or a report, with its LF
+unfoldable pub line : (key value : List ℕ) → List ℕ
+line key value = joined (key ∷ value ∷ ascii "\n" ∷ [])

@@ -1,10 +1,10 @@
-// Decimals put into a lent slice, and their lengths.
+// Whole numbers and decimals put into a lent slice, and their lengths.
 use crate::put::put;
 ghost use mathlib.Core.Path.{_≡_};
 ghost use Prim.Native.Nat.{_+_, _≤_};
 ghost use lib.ListN.{length};
 ghost use Rattle.text.specs.Put.{Room, Puts};
-ghost use Rattle.text.specs.Decimal.{width, lastDigits, minusSign, decimalText};
+ghost use Rattle.text.specs.Decimal.{wholeText, lastDigits, minusSign, decimalText};
 
 // A decimal as it is shown: its magnitude in units of 10^-places and in whole ones, and whether a minus stands before it.
 pub struct Shown {
@@ -15,8 +15,8 @@ pub struct Shown {
 }
 
 // How many digits n has.
-fn width_of(n: u64) -> usize
-    ensures { λ r. ⌜ (r ≡ width n) × (r ≤ 20) ⌝ }
+pub fn whole_len(n: u64) -> usize
+    ensures { λ r. ⌜ (r ≡ length (wholeText n)) × (r ≤ 20) ⌝ }
 {
     let mut left = n;
     let mut k = 1;
@@ -42,6 +42,14 @@ fn put_digits(dst: &mut [u8], at: usize, k: usize, n: u64) -> usize
     at + k
 }
 
+// Puts a whole number.
+pub fn put_whole(dst: &mut [u8], at: usize, n: u64) -> usize
+    requires { ⌜ Room (now dst) at (wholeText n) ⌝ }
+    ensures { λ r. ⌜ Puts (now (dst .entry)) at (wholeText n) r (now (dst .exit)) ⌝ }
+{
+    put_digits(dst, at, whole_len(n), n)
+}
+
 fn put_minus(dst: &mut [u8], at: usize, shows: bool) -> usize
     requires { ⌜ Room (now dst) at (minusSign shows) ⌝ }
     ensures { λ r. ⌜ Puts (now (dst .entry)) at (minusSign shows) r (now (dst .exit)) ⌝ }
@@ -56,7 +64,7 @@ fn put_minus(dst: &mut [u8], at: usize, shows: bool) -> usize
 pub fn decimal_len(d: Shown) -> usize
     ensures { λ r. ⌜ (r ≡ length (decimalText d)) × (r ≤ 22 + d .places) ⌝ }
 {
-    let unsigned = width_of(d.whole) + 1 + d.places as usize;
+    let unsigned = whole_len(d.whole) + 1 + d.places as usize;
     if d.minus { 1 + unsigned } else { unsigned }
 }
 
@@ -66,7 +74,7 @@ pub fn put_decimal(dst: &mut [u8], at: usize, d: Shown) -> usize
     ensures { λ r. ⌜ Puts (now (dst .entry)) at (decimalText d) r (now (dst .exit)) ⌝ }
 {
     let after_minus = put_minus(dst, at, d.minus);
-    let after_whole = put_digits(dst, after_minus, width_of(d.whole), d.whole);
+    let after_whole = put_whole(dst, after_minus, d.whole);
     let after_point = put(dst, after_whole, b".");
     put_digits(dst, after_point, d.places as usize, d.units)
 }

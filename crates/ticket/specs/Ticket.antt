@@ -7,6 +7,9 @@ use mathlib.Core.Option.{Option, none, some}
 use lib.Dec.{ltb}
 use lib.ListN.{length, drop}
 use Rattle.text.specs.Ascii.{ascii}
+use Rattle.text.specs.Bytes.{has, before, after, startsWith, sameBytes}
+use Rattle.text.specs.Names.{formulaName, whiteName}
+use Rattle.text.specs.Number.{both, thousandthsOf, signedOf}
 use Rattle.reading.specs.declared.decimal.Decimal.{Decimal}
 use Rattle.colour.specs.declared.placed.Written.{Written}
 use Rattle.colour.specs.declared.placed.Written.the-variants as W
@@ -14,13 +17,12 @@ use Rattle.colour.specs.declared.white.White.{White}
 use Rattle.colour.specs.declared.white.White.the-variants.{D65Ten, D65Two, CTen, CTwo}
 use Rattle.sheet.specs.declared.formula.Formula.{Formula}
 use Rattle.sheet.specs.declared.formula.Formula.the-variants.{CIELAB, CIE94, CMC}
+use Rattle.sheet.specs.declared.settings.Settings.{Settings}
 use Rattle.ticket.specs.declared.value.Space.{Space}
 use Rattle.ticket.specs.declared.value.Space.the-variants.{Xyz, Lab}
 use Rattle.ticket.specs.declared.lines.Ticket.{Ticket}
 use Rattle.ticket.specs.declared.lines.Parsed.{Parsed}
 use Rattle.ticket.specs.declared.lines.Parsed.the-variants.{Right, Wrong}
-use Rattle.numerals.specs.Bytes.{has, before, after, startsWith, sameBytes}
-use Rattle.numerals.specs.Number.{thousandthsOf, signedOf}
 pub mod Laws
 pub mod Print
 pub mod Theorems
@@ -28,33 +30,30 @@ pub mod Cases
 
 -- ---- what a value says
 
-unfoldable pub formulaNamed : List ℕ → Option Formula
-formulaNamed s =
-    cond (sameBytes s (ascii "CIELAB")) (some CIELAB)
-    (cond (sameBytes s (ascii "CIE94")) (some CIE94)
-    (cond (sameBytes s (ascii "CMC")) (some CMC) none))
+-- the one of xs whose name s is
+unfoldable pub named : {A : Type 0} → (name : A → List ℕ) (xs : List A) (s : List ℕ) → Option A
+named name [] s = none
+named name (x ∷ xs) s = cond (sameBytes s (name x)) (some x) (named name xs s)
 
-unfoldable pub whiteNamed : List ℕ → Option White
-whiteNamed s =
-    cond (sameBytes s (ascii "D65/10")) (some D65Ten)
-    (cond (sameBytes s (ascii "D65/2")) (some D65Two)
-    (cond (sameBytes s (ascii "C/10")) (some CTen)
-    (cond (sameBytes s (ascii "C/2")) (some CTwo) none)))
+abbrev pub formulaNamed : List ℕ → Option Formula
+formulaNamed s = named formulaName (CIELAB ∷ CIE94 ∷ CMC ∷ []) s
 
-unfoldable pub spaceNamed : List ℕ → Option Space
-spaceNamed s =
-    cond (sameBytes s (ascii "XYZ")) (some Xyz)
-    (cond (sameBytes s (ascii "LAB")) (some Lab) none)
+abbrev pub whiteNamed : List ℕ → Option White
+whiteNamed s = named whiteName (D65Ten ∷ D65Two ∷ CTen ∷ CTwo ∷ []) s
+
+abbrev pub spaceName : Space → List ℕ
+spaceName Xyz = ascii "XYZ"
+spaceName Lab = ascii "LAB"
+
+abbrev pub spaceNamed : List ℕ → Option Space
+spaceNamed s = named spaceName (Xyz ∷ Lab ∷ []) s
 
 unfoldable pub inSpace : Space → (x y z : Decimal) → Written
 inSpace Xyz x y z = W.Xyz x y z
 inSpace Lab x y z = W.Lab x y z
 
 abbrev pub three : {A B : Type 0} → (A → A → A → B) → Option A → Option A → Option A → Option B
-three f none q r = none
-three f (some x) none r = none
-three f (some x) (some y) none = none
-three f (some x) (some y) (some z) = some (f x y z)
+three f p q r = both (λ g z. g z) (both f p q) r
 
 -- three numbers, one space between
 unfoldable pub readingOf : Space → List ℕ → Option Written
@@ -74,41 +73,48 @@ due n key value next s =
     (orWrong n (value (drop (length key) (before 10 s))) (λ x. next x (after 10 s)))
     (Wrong n)
 
--- ---- the lines in their order, the last one first; n is the number of the line that the text starts with
+-- ---- the lines in their order, the last one first; n is the number of the line that the text starts with, p the settings so far
 
 -- nothing may follow
 unfoldable pub nothingMore : ℕ → Ticket → List ℕ → Parsed
 nothingMore n t [] = Right t
 nothingMore n t (x ∷ s) = Wrong n
 
-unfoldable pub testLine : ℕ → Formula → White → (l c tol : ℕ) → Space → Written → List ℕ → Parsed
-testLine n f w l c tol space r =
-    due n (ascii "test=") (readingOf space)
-    (λ t. nothingMore (n + 1) (record { formula = f; white = w; l = l; c = c; tolerance = tol; reference = r; test = t }))
+unfoldable pub testLine : ℕ → Settings → Space → (reference : Written) → List ℕ → Parsed
+testLine n p space r = due n (ascii "test=") (readingOf space) (λ t. nothingMore (n + 1) (record { settings = p; reference = r; test = t }))
 
-unfoldable pub refLine : ℕ → Formula → White → (l c tol : ℕ) → Space → List ℕ → Parsed
-refLine n f w l c tol space = due n (ascii "ref=") (readingOf space) (testLine (n + 1) f w l c tol space)
+unfoldable pub refLine : ℕ → Settings → Space → List ℕ → Parsed
+refLine n p space = due n (ascii "ref=") (readingOf space) (testLine (n + 1) p space)
 
-unfoldable pub spaceLine : ℕ → Formula → White → (l c tol : ℕ) → List ℕ → Parsed
-spaceLine n f w l c tol = due n (ascii "space=") spaceNamed (refLine (n + 1) f w l c tol)
+unfoldable pub spaceLine : ℕ → Settings → List ℕ → Parsed
+spaceLine n p = due n (ascii "space=") spaceNamed (refLine (n + 1) p)
 
-unfoldable pub tolLine : ℕ → Formula → White → (l c : ℕ) → List ℕ → Parsed
-tolLine n f w l c = due n (ascii "tol=") thousandthsOf (spaceLine (n + 1) f w l c)
+-- a line fills in its own setting
+abbrev pub filled : Settings → (l c tolerance : ℕ) → Settings
+filled p l c tolerance = record { formula = p .formula; white = p .white; l = l; c = c; tolerance = tolerance }
 
-unfoldable pub cLine : ℕ → Formula → White → (l : ℕ) → List ℕ → Parsed
-cLine n f w l = due n (ascii "c=") thousandthsOf (tolLine (n + 1) f w l)
+unfoldable pub tolLine : ℕ → Settings → List ℕ → Parsed
+tolLine n p = due n (ascii "tol=") thousandthsOf (λ x. spaceLine (n + 1) (filled p (p .l) (p .c) x))
+
+unfoldable pub cLine : ℕ → Settings → List ℕ → Parsed
+cLine n p = due n (ascii "c=") thousandthsOf (λ x. tolLine (n + 1) (filled p (p .l) x (p .tolerance)))
+
+-- l and c may both be missing; a line that starts with tol= says so
+unfoldable pub factorLines : ℕ → Settings → List ℕ → Parsed
+factorLines n p s =
+    cond (startsWith (ascii "tol=") s) (tolLine n p s)
+    (due n (ascii "l=") thousandthsOf (λ x. cLine (n + 1) (filled p x (p .c) (p .tolerance))) s)
 
 -- l and c where their lines are missing, in thousandths
 abbrev pub missing : ℕ
 missing = 1000
 
--- l and c may both be missing; a line that starts with tol= says so
-unfoldable pub factorLines : ℕ → Formula → White → List ℕ → Parsed
-factorLines n f w s =
-    cond (startsWith (ascii "tol=") s) (tolLine n f w missing missing s) (due n (ascii "l=") thousandthsOf (cLine (n + 1) f w) s)
+-- before the line l; no ticket lacks a tolerance
+abbrev pub blank : Formula → White → Settings
+blank f w = record { formula = f; white = w; l = missing; c = missing; tolerance = 0 }
 
 unfoldable pub whiteLine : ℕ → Formula → List ℕ → Parsed
-whiteLine n f = due n (ascii "white=") whiteNamed (factorLines (n + 1) f)
+whiteLine n f = due n (ascii "white=") whiteNamed (λ w. factorLines (n + 1) (blank f w))
 
 -- THE TICKET: at most 4,096 bytes
 unfoldable pub ticketOf : List ℕ → Parsed

@@ -1,33 +1,28 @@
 // The lines of a ticket, in their order: each function reads one line of what is left of the text, and hands the rest on.
-use crate::value::SaidFormula;
-use crate::value::SaidReading;
-use crate::value::SaidSpace;
-use crate::value::SaidWhite;
+use crate::value::FormulaRead;
+use crate::value::ReadingRead;
 use crate::value::Space;
+use crate::value::SpaceRead;
+use crate::value::WhiteRead;
 use crate::value::formula_named;
 use crate::value::reading_of;
 use crate::value::space_named;
 use crate::value::white_named;
 use colour::placed::Written;
-use colour::white::White;
-use numerals::bytes::find;
-use numerals::bytes::part_after;
-use numerals::bytes::starts;
-use numerals::number::SaidNumber;
-use numerals::number::thousandths;
 use sheet::formula::Formula;
+use sheet::settings::Settings;
+use text::bytes::find;
+use text::bytes::part_after;
+use text::bytes::starts;
+use text::number::NumberRead;
+use text::number::thousandths;
 ghost use mathlib.Core.Path.{_≡_};
 ghost use Prim.Native.Nat.{_≤_};
 ghost use Rattle.ticket.specs.Ticket.{whiteLine, factorLines, cLine, tolLine, spaceLine, refLine, testLine, ticketOf};
 ghost use Rattle.ticket.specs.Ticket.Laws.{valueOf};
 
 pub struct Ticket {
-    pub formula: Formula,
-    pub white: White,
-    // In thousandths, as the tolerance is.
-    pub l: u64,
-    pub c: u64,
-    pub tolerance: u64,
+    pub settings: Settings,
     pub reference: Written,
     pub test: Written,
 }
@@ -54,31 +49,17 @@ fn value<'a>(s: &'a [u8], key: &[u8]) -> &'a [u8]
     }
 }
 
-fn test_line(
-    s: &[u8],
-    n: u32,
-    formula: Formula,
-    white: White,
-    l: u64,
-    c: u64,
-    tolerance: u64,
-    space: Space,
-    reference: Written,
-) -> Parsed
+fn test_line(s: &[u8], n: u32, settings: Settings, space: Space, reference: Written) -> Parsed
     requires { ⌜ n ≤ 8 ⌝ }
-    ensures { λ r. ⌜ r ≡ testLine n formula white l c tolerance space reference (now (s .entry)) ⌝ }
+    ensures { λ r. ⌜ r ≡ testLine n settings space reference (now (s .entry)) ⌝ }
 {
     match reading_of(value(s, b"test="), space) {
-        SaidReading::Nothing => Parsed::Wrong(n),
-        SaidReading::Is(test) => {
+        ReadingRead::Nothing => Parsed::Wrong(n),
+        ReadingRead::Is(test) => {
             let rest = part_after(s, 10);
             if rest.len() == 0 {
                 Parsed::Right(Ticket {
-                    formula: formula,
-                    white: white,
-                    l: l,
-                    c: c,
-                    tolerance: tolerance,
+                    settings: settings,
                     reference: reference,
                     test: test,
                 })
@@ -89,104 +70,98 @@ fn test_line(
     }
 }
 
-fn ref_line(
-    s: &[u8],
-    n: u32,
-    formula: Formula,
-    white: White,
-    l: u64,
-    c: u64,
-    tolerance: u64,
-    space: Space,
-) -> Parsed
+fn ref_line(s: &[u8], n: u32, settings: Settings, space: Space) -> Parsed
     requires { ⌜ n ≤ 7 ⌝ }
-    ensures { λ r. ⌜ r ≡ refLine n formula white l c tolerance space (now (s .entry)) ⌝ }
+    ensures { λ r. ⌜ r ≡ refLine n settings space (now (s .entry)) ⌝ }
 {
     match reading_of(value(s, b"ref="), space) {
-        SaidReading::Nothing => Parsed::Wrong(n),
-        SaidReading::Is(x) => {
+        ReadingRead::Nothing => Parsed::Wrong(n),
+        ReadingRead::Is(x) => {
             let rest = part_after(s, 10);
-            test_line(rest, n + 1, formula, white, l, c, tolerance, space, x)
+            test_line(rest, n + 1, settings, space, x)
         }
     }
 }
 
-fn space_line(
-    s: &[u8],
-    n: u32,
-    formula: Formula,
-    white: White,
-    l: u64,
-    c: u64,
-    tolerance: u64,
-) -> Parsed
+fn space_line(s: &[u8], n: u32, settings: Settings) -> Parsed
     requires { ⌜ n ≤ 6 ⌝ }
-    ensures { λ r. ⌜ r ≡ spaceLine n formula white l c tolerance (now (s .entry)) ⌝ }
+    ensures { λ r. ⌜ r ≡ spaceLine n settings (now (s .entry)) ⌝ }
 {
     match space_named(value(s, b"space=")) {
-        SaidSpace::Nothing => Parsed::Wrong(n),
-        SaidSpace::Is(x) => {
+        SpaceRead::Nothing => Parsed::Wrong(n),
+        SpaceRead::Is(x) => {
             let rest = part_after(s, 10);
-            ref_line(rest, n + 1, formula, white, l, c, tolerance, x)
+            ref_line(rest, n + 1, settings, x)
         }
     }
 }
 
-fn tol_line(s: &[u8], n: u32, formula: Formula, white: White, l: u64, c: u64) -> Parsed
+fn tol_line(s: &[u8], n: u32, mut settings: Settings) -> Parsed
     requires { ⌜ n ≤ 5 ⌝ }
-    ensures { λ r. ⌜ r ≡ tolLine n formula white l c (now (s .entry)) ⌝ }
+    ensures { λ r. ⌜ r ≡ tolLine n settings (now (s .entry)) ⌝ }
 {
     match thousandths(value(s, b"tol=")) {
-        SaidNumber::Nothing => Parsed::Wrong(n),
-        SaidNumber::Is(x) => {
+        NumberRead::Nothing => Parsed::Wrong(n),
+        NumberRead::Is(x) => {
             let rest = part_after(s, 10);
-            space_line(rest, n + 1, formula, white, l, c, x)
+            settings.tolerance = x;
+            space_line(rest, n + 1, settings)
         }
     }
 }
 
-fn c_line(s: &[u8], n: u32, formula: Formula, white: White, l: u64) -> Parsed
+fn c_line(s: &[u8], n: u32, mut settings: Settings) -> Parsed
     requires { ⌜ n ≤ 4 ⌝ }
-    ensures { λ r. ⌜ r ≡ cLine n formula white l (now (s .entry)) ⌝ }
+    ensures { λ r. ⌜ r ≡ cLine n settings (now (s .entry)) ⌝ }
 {
     match thousandths(value(s, b"c=")) {
-        SaidNumber::Nothing => Parsed::Wrong(n),
-        SaidNumber::Is(x) => {
+        NumberRead::Nothing => Parsed::Wrong(n),
+        NumberRead::Is(x) => {
             let rest = part_after(s, 10);
-            tol_line(rest, n + 1, formula, white, l, x)
+            settings.c = x;
+            tol_line(rest, n + 1, settings)
         }
     }
 }
 
-// l and c where their lines are missing.
-const MISSING: u64 = 1000;
-
-// A line tol= here saysNumber that l and c are missing.
-fn factor_lines(s: &[u8], n: u32, formula: Formula, white: White) -> Parsed
+// A line tol= here says that l and c are missing.
+fn factor_lines(s: &[u8], n: u32, mut settings: Settings) -> Parsed
     requires { ⌜ n ≤ 3 ⌝ }
-    ensures { λ r. ⌜ r ≡ factorLines n formula white (now (s .entry)) ⌝ }
+    ensures { λ r. ⌜ r ≡ factorLines n settings (now (s .entry)) ⌝ }
 {
     if starts(s, b"tol=") {
-        return tol_line(s, n, formula, white, MISSING, MISSING);
+        return tol_line(s, n, settings);
     }
     match thousandths(value(s, b"l=")) {
-        SaidNumber::Nothing => Parsed::Wrong(n),
-        SaidNumber::Is(x) => {
+        NumberRead::Nothing => Parsed::Wrong(n),
+        NumberRead::Is(x) => {
             let rest = part_after(s, 10);
-            c_line(rest, n + 1, formula, white, x)
+            settings.l = x;
+            c_line(rest, n + 1, settings)
         }
     }
 }
+
+// l and c where their lines are missing, in thousandths.
+const MISSING: u64 = 1000;
 
 fn white_line(s: &[u8], n: u32, formula: Formula) -> Parsed
     requires { ⌜ n ≤ 2 ⌝ }
     ensures { λ r. ⌜ r ≡ whiteLine n formula (now (s .entry)) ⌝ }
 {
     match white_named(value(s, b"white=")) {
-        SaidWhite::Nothing => Parsed::Wrong(n),
-        SaidWhite::Is(x) => {
+        WhiteRead::Nothing => Parsed::Wrong(n),
+        WhiteRead::Is(x) => {
             let rest = part_after(s, 10);
-            factor_lines(rest, n + 1, formula, x)
+            // The tolerance is filled in by its line, which no ticket lacks.
+            let blank = Settings {
+                formula: formula,
+                white: x,
+                l: MISSING,
+                c: MISSING,
+                tolerance: 0,
+            };
+            factor_lines(rest, n + 1, blank)
         }
     }
 }
@@ -199,8 +174,8 @@ pub fn parse(text: &[u8]) -> Parsed
         return Parsed::Wrong(0);
     }
     match formula_named(value(text, b"formula=")) {
-        SaidFormula::Nothing => Parsed::Wrong(1),
-        SaidFormula::Is(x) => {
+        FormulaRead::Nothing => Parsed::Wrong(1),
+        FormulaRead::Is(x) => {
             let rest = part_after(text, 10);
             white_line(rest, 2, x)
         }

@@ -1,17 +1,17 @@
 // What a line's value says: a name, or a reading of three numbers.
 use colour::placed::Written;
 use colour::white::White;
-use numerals::bytes::part_after;
-use numerals::bytes::part_before;
-use numerals::bytes::same;
-use numerals::number::SaidSigned;
-use numerals::number::signed;
 use reading::decimal::Decimal;
 use sheet::formula::Formula;
+use text::bytes::part_after;
+use text::bytes::part_before;
+use text::bytes::same;
+use text::number::SignedRead;
+use text::number::signed;
 ghost use mathlib.Core.Path.{_≡_};
 ghost use Rattle.ticket.specs.Ticket.{formulaNamed, whiteNamed, spaceNamed, inSpace, three, readingOf};
-ghost use Rattle.numerals.specs.Number.Laws.{saysSigned};
-ghost use Rattle.ticket.specs.Ticket.Laws.{saysFormula, saysWhite, saysSpace, saysReading};
+ghost use Rattle.text.specs.Number.Laws.{signedIn};
+ghost use Rattle.ticket.specs.Ticket.Laws.{formulaIn, whiteIn, spaceIn, readingIn};
 
 // Whether the readings are tristimulus values or coordinates.
 pub enum Space {
@@ -20,69 +20,69 @@ pub enum Space {
 }
 
 // What a value says, if it is right.
-pub enum SaidFormula {
+pub enum FormulaRead {
     Nothing,
     Is(Formula),
 }
 
-pub enum SaidWhite {
+pub enum WhiteRead {
     Nothing,
     Is(White),
 }
 
-pub enum SaidSpace {
+pub enum SpaceRead {
     Nothing,
     Is(Space),
 }
 
-pub enum SaidReading {
+pub enum ReadingRead {
     Nothing,
     Is(Written),
 }
 
-pub fn formula_named(s: &[u8]) -> SaidFormula
-    ensures { λ r. ⌜ saysFormula r ≡ formulaNamed (now (s .entry)) ⌝ }
+pub(crate) fn formula_named(s: &[u8]) -> FormulaRead
+    ensures { λ r. ⌜ formulaIn r ≡ formulaNamed (now (s .entry)) ⌝ }
 {
     if same(s, b"CIELAB") {
-        return SaidFormula::Is(Formula::CIELAB);
+        return FormulaRead::Is(Formula::CIELAB);
     }
     if same(s, b"CIE94") {
-        return SaidFormula::Is(Formula::CIE94);
+        return FormulaRead::Is(Formula::CIE94);
     }
     if same(s, b"CMC") {
-        return SaidFormula::Is(Formula::CMC);
+        return FormulaRead::Is(Formula::CMC);
     }
-    SaidFormula::Nothing
+    FormulaRead::Nothing
 }
 
-pub fn white_named(s: &[u8]) -> SaidWhite
-    ensures { λ r. ⌜ saysWhite r ≡ whiteNamed (now (s .entry)) ⌝ }
+pub(crate) fn white_named(s: &[u8]) -> WhiteRead
+    ensures { λ r. ⌜ whiteIn r ≡ whiteNamed (now (s .entry)) ⌝ }
 {
     if same(s, b"D65/10") {
-        return SaidWhite::Is(White::D65Ten);
+        return WhiteRead::Is(White::D65Ten);
     }
     if same(s, b"D65/2") {
-        return SaidWhite::Is(White::D65Two);
+        return WhiteRead::Is(White::D65Two);
     }
     if same(s, b"C/10") {
-        return SaidWhite::Is(White::CTen);
+        return WhiteRead::Is(White::CTen);
     }
     if same(s, b"C/2") {
-        return SaidWhite::Is(White::CTwo);
+        return WhiteRead::Is(White::CTwo);
     }
-    SaidWhite::Nothing
+    WhiteRead::Nothing
 }
 
-pub fn space_named(s: &[u8]) -> SaidSpace
-    ensures { λ r. ⌜ saysSpace r ≡ spaceNamed (now (s .entry)) ⌝ }
+pub(crate) fn space_named(s: &[u8]) -> SpaceRead
+    ensures { λ r. ⌜ spaceIn r ≡ spaceNamed (now (s .entry)) ⌝ }
 {
     if same(s, b"XYZ") {
-        return SaidSpace::Is(Space::Xyz);
+        return SpaceRead::Is(Space::Xyz);
     }
     if same(s, b"LAB") {
-        return SaidSpace::Is(Space::Lab);
+        return SpaceRead::Is(Space::Lab);
     }
-    SaidSpace::Nothing
+    SpaceRead::Nothing
 }
 
 fn in_space(space: Space, x: Decimal, y: Decimal, z: Decimal) -> Written
@@ -95,24 +95,24 @@ fn in_space(space: Space, x: Decimal, y: Decimal, z: Decimal) -> Written
 }
 
 // Three numbers are a reading of the space.
-fn together(space: Space, p: SaidSigned, q: SaidSigned, r: SaidSigned) -> SaidReading
-    ensures { λ a. ⌜ saysReading a ≡ three (inSpace space) (saysSigned p) (saysSigned q) (saysSigned r) ⌝ }
+fn together(space: Space, p: SignedRead, q: SignedRead, r: SignedRead) -> ReadingRead
+    ensures { λ a. ⌜ readingIn a ≡ three (inSpace space) (signedIn p) (signedIn q) (signedIn r) ⌝ }
 {
     match p {
-        SaidSigned::Nothing => SaidReading::Nothing,
-        SaidSigned::Is(x) => match q {
-            SaidSigned::Nothing => SaidReading::Nothing,
-            SaidSigned::Is(y) => match r {
-                SaidSigned::Nothing => SaidReading::Nothing,
-                SaidSigned::Is(z) => SaidReading::Is(in_space(space, x, y, z)),
+        SignedRead::Nothing => ReadingRead::Nothing,
+        SignedRead::Is(x) => match q {
+            SignedRead::Nothing => ReadingRead::Nothing,
+            SignedRead::Is(y) => match r {
+                SignedRead::Nothing => ReadingRead::Nothing,
+                SignedRead::Is(z) => ReadingRead::Is(in_space(space, x, y, z)),
             },
         },
     }
 }
 
 // Three numbers, one space between.
-pub fn reading_of(s: &[u8], space: Space) -> SaidReading
-    ensures { λ r. ⌜ saysReading r ≡ readingOf space (now (s .entry)) ⌝ }
+pub(crate) fn reading_of(s: &[u8], space: Space) -> ReadingRead
+    ensures { λ r. ⌜ readingIn r ≡ readingOf space (now (s .entry)) ⌝ }
 {
     let t = part_after(s, 32);
     let x = signed(part_before(s, 32));

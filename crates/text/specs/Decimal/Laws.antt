@@ -5,7 +5,7 @@ use Prim.Native.Nat.{ℕ, zero, suc, _+_, _-_, _*_, _/_, _%_, _^_, _≤_, _<_}
 use native.Mathlib.Numerals.{add-one}
 use mathlib.Core.Logic.{_⊎_, inl, inr, ⊎-elim}
 use native.Mathlib.Nat.{eq-zero-or-pos, one-le-pow, pow-suc, pow-zero, mul-lt-mul-of-pos-right}
-use native.Mathlib.Nat.{mul-div-left, mul-add-div-right, div-add-mod', div-div-eq-div-mul, div-lt-iff-lt-mul}
+use native.Mathlib.Nat.{mul-add-div-right, div-add-mod', div-div-eq-div-mul, div-lt-iff-lt-mul}
 use native.Mathlib.Omega.{arith}
 use borrow.Author.Tests.{lt-ltb, le-ltb}
 use lib.ListN.{length, length-append}
@@ -13,11 +13,6 @@ use Rattle.text.specs.Decimal.{shown, lastDigits, widthIn, width, minusS
 use Rattle.text.specs.declared.decimal.Shown.{Shown}
 
 -- ---- what is shown
-
--- units of 10 ^ -places are shown as many as they are
-pub shown-same : (places m : ℕ) → shown places (10 ^ places) m ≡ m
-unfolding shown
-shown-same places m = mul-div-left m (one-le-pow places 10 (omega arith))
 
 -- the whole ones and the rest, each by itself, so that no product is large
 pub shown-split : (places perOne m : ℕ) → 0 < perOne → shown places perOne m ≡ m / perOne * 10 ^ places + m % perOne * 10 ^ places / perOne
@@ -96,6 +91,17 @@ width-in-le (suc j) (suc k) n h =
     (λ (f : n < 10). omega (arith, width-in-small (suc j) n f))
     (λ (f : 10 ≤ n). omega (arith, width-in-more j n f))
     (one-or-more n)
+
+-- whatever the number
+width-in-few : (k n : ℕ) → widthIn k n ≤ k + 1
+unfolding widthIn
+width-in-few zero n = omega arith
+width-in-few (suc k) n =
+    let ih : widthIn k (n / 10) ≤ k + 1 = width-in-few k (n / 10) in
+    ⊎-elim (λ (f : n < 10). omega (arith, width-in-small (suc k) n f)) (λ (f : 10 ≤ n). omega (arith, width-in-more k n f)) (one-or-more n)
+
+pub width-few : (n : ℕ) → width n ≤ 21
+width-few n = width-in-few 20 n
 
 pub width-small : (n : ℕ) → n < 10 → width n ≡ 1
 width-small n h = width-in-small 20 n h

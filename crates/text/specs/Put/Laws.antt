@@ -8,7 +8,7 @@ use native.Mathlib.Numerals.{add-one}
 use native.Mathlib.Nat.{add-zero, zero-add, add-assoc}
 use lib.ListN.{length, take, drop, getD, set, length-append, length-take, length-drop, take-append-drop, drop-of-length-le}
 use lib.Seq.{paste, take-all, take-length, take-at, drop-drop, drop-append-add, set-at, take-suc, length-take-le}
-use Rattle.text.specs.Put.{putAt, Room, Puts, joined}
+use Rattle.text.specs.Put.{putAt, Room, Puts, joined, line}
 
 -- ---- one put
 
@@ -79,6 +79,20 @@ room-as {xs} {s} {t} {at} e h = subst (λ (l : List ℕ). Room xs at l) e h
 
 pub puts-as : {xs ys s t : List ℕ} {at r : ℕ} → s ≡ t → Puts xs at s r ys → Puts xs at t r ys
 puts-as {xs} {ys} {s} {t} {at} {r} e p = subst (λ (l : List ℕ). Puts xs at l r ys) e p
+
+-- An arm of a match on x, where x is y: what is put is y's text.
+module _ {A : Type 0} (text : A → List ℕ) {x y : A} (e : x ≡ y) {xs : List ℕ} {at : ℕ} where
+  pub room-in-arm : Room xs at (text x) → Room xs at (text y)
+  room-in-arm h = room-as (ap text e) h
+
+  pub puts-in-arm : {ys : List ℕ} {r : ℕ} → Puts xs at (text y) r ys → Puts xs at (text x) r ys
+  puts-in-arm p = puts-as (sym (ap text e)) p
+
+-- ---- lines
+
+pub line-length : (key value : List ℕ) → length (line key value) ≡ length key + length value + 1
+unfolding line
+line-length key value = simp length-append (omega arith)
 
 -- ---- a row of texts
 

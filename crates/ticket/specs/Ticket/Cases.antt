@@ -9,9 +9,9 @@ use Rattle.colour.specs.declared.white.White.the-variants.{D65Ten}
 use Rattle.sheet.specs.declared.formula.Formula.the-variants.{CMC}
 use Rattle.ticket.specs.declared.lines.Parsed.{Parsed}
 use Rattle.ticket.specs.declared.lines.Parsed.the-variants.{Right, Wrong}
-use Rattle.numerals.specs.Bytes.{indexOf, before, after, startsWith, sameBytes}
-use Rattle.numerals.specs.Number.{numeral, digitsOf, fractionOf, decimalOf, decimalBelow, signedOf}
-use Rattle.ticket.specs.Ticket.{formulaNamed, whiteNamed, spaceNamed, inSpace, readingOf, due, nothingMore}
+use Rattle.text.specs.Bytes.{indexOf, before, after, startsWith, sameBytes}
+use Rattle.text.specs.Number.{numeral, digitsOf, fractionOf, decimalOf, decimalBelow, signedOf}
+use Rattle.ticket.specs.Ticket.{named, inSpace, readingOf, due, nothingMore}
 use Rattle.ticket.specs.Ticket.{testLine, refLine, spaceLine, tolLine, cLine, factorLines, whiteLine, ticketOf}
 
 abbrev answer : String → Parsed
@@ -29,11 +29,7 @@ pub record TicketCases : Type 0 where
       answer "formula=CMC\nwhite=D65/10\nl=1.000\nc=1.000\ntol=1.000\nspace=LAB\nref=50 0 0\ntest=51 0 0\n"
       ≡ Right
       (record {
-        formula = CMC;
-        white = D65Ten;
-        l = 1000;
-        c = 1000;
-        tolerance = 1000;
+        settings = record { formula = CMC; white = D65Ten; l = 1000; c = 1000; tolerance = 1000 };
         reference = Lab (decimalBelow false 50000000) (decimalBelow false 0) (decimalBelow false 0);
         test = Lab (decimalBelow false 51000000) (decimalBelow false 0) (decimalBelow false 0);
       })
@@ -41,11 +37,7 @@ pub record TicketCases : Type 0 where
       from3 "tol=00.5\nspace=XYZ\nref=-0 007.5 -0.000001\ntest=999.999999 1 2\n"
       ≡ Right
       (record {
-        formula = CMC;
-        white = D65Ten;
-        l = 1000;
-        c = 1000;
-        tolerance = 500;
+        settings = record { formula = CMC; white = D65Ten; l = 1000; c = 1000; tolerance = 500 };
         reference = Xyz (decimalBelow true 0) (decimalBelow false 7500000) (decimalBelow true 1);
         test = Xyz (decimalBelow false 999999999) (decimalBelow false 1000000) (decimalBelow false 2000000);
       })
@@ -69,7 +61,7 @@ pub record TicketCases : Type 0 where
 
 pub ticket-cases : TicketCases
 unfolding indexOf before after startsWith sameBytes numeral digitsOf fractionOf decimalOf signedOf
-    formulaNamed whiteNamed spaceNamed inSpace readingOf due nothingMore
+    named inSpace readingOf due nothingMore
     testLine refLine spaceLine tolLine cLine factorLines whiteLine ticketOf
 ticket-cases =
     record {

@@ -1,6 +1,6 @@
 -- What callers go by of the lines of Ticket.antt. Assumes nothing.
 use Prim.Native.Nat.{ℕ, _-_, _+_, _≤_, _<_}
-use mathlib.Core.Path.{_≡_, refl, sym, ap, _∙_}
+use mathlib.Core.Path.{_≡_, refl, sym, _∙_}
 use mathlib.Core.Bool.{Bool, true, false, cond, _&&_}
 use mathlib.Core.List.{List, [], _∷_}
 use mathlib.Core.Option.{Option, none, some}
@@ -13,42 +13,43 @@ use Rattle.colour.specs.declared.placed.Written.{Written}
 use Rattle.colour.specs.declared.placed.Written.the-variants.{Xyz as Written·Xyz, Lab as Written·Lab}
 use Rattle.colour.specs.declared.white.White.{White}
 use Rattle.sheet.specs.declared.formula.Formula.{Formula}
+use Rattle.sheet.specs.declared.settings.Settings.{Settings}
 use Rattle.ticket.specs.declared.value.Space.{Space}
 use Rattle.ticket.specs.declared.value.Space.the-variants.{Xyz, Lab}
-use Rattle.ticket.specs.declared.value.SaidFormula.{SaidFormula}
-use Rattle.ticket.specs.declared.value.SaidFormula.the-variants as F
-use Rattle.ticket.specs.declared.value.SaidWhite.{SaidWhite}
-use Rattle.ticket.specs.declared.value.SaidWhite.the-variants as W
-use Rattle.ticket.specs.declared.value.SaidSpace.{SaidSpace}
-use Rattle.ticket.specs.declared.value.SaidSpace.the-variants as S
-use Rattle.ticket.specs.declared.value.SaidReading.{SaidReading}
-use Rattle.ticket.specs.declared.value.SaidReading.the-variants as R
+use Rattle.ticket.specs.declared.value.FormulaRead.{FormulaRead}
+use Rattle.ticket.specs.declared.value.FormulaRead.the-variants as F
+use Rattle.ticket.specs.declared.value.WhiteRead.{WhiteRead}
+use Rattle.ticket.specs.declared.value.WhiteRead.the-variants as W
+use Rattle.ticket.specs.declared.value.SpaceRead.{SpaceRead}
+use Rattle.ticket.specs.declared.value.SpaceRead.the-variants as S
+use Rattle.ticket.specs.declared.value.ReadingRead.{ReadingRead}
+use Rattle.ticket.specs.declared.value.ReadingRead.the-variants as R
 use Rattle.ticket.specs.declared.lines.Parsed.{Parsed}
 use Rattle.ticket.specs.declared.lines.Parsed.the-variants.{Right, Wrong}
 use Rattle.ticket.specs.declared.lines.Ticket.{Ticket}
-use Rattle.numerals.specs.Bytes.{indexOf, has, before, after, startsWith, sameBytes}
-use Rattle.numerals.specs.Bytes.Laws.{Found, drop-is}
-use Rattle.numerals.specs.Number.{digitsOf, decimalOf, thousandthsOf, signedOf}
-use Rattle.ticket.specs.Ticket.{formulaNamed, whiteNamed, spaceNamed, inSpace, three, readingOf, orWrong, due}
-use Rattle.ticket.specs.Ticket.{nothingMore, tolLine, cLine, missing, factorLines, whiteLine, ticketOf}
+use Rattle.text.specs.Bytes.{indexOf, has, before, after, startsWith, sameBytes}
+use Rattle.text.specs.Bytes.Laws.{Found, drop-is}
+use Rattle.text.specs.Number.{digitsOf, decimalOf, thousandthsOf, signedOf}
+use Rattle.ticket.specs.Ticket.{named, formulaNamed, whiteNamed, spaceNamed, inSpace, three, readingOf, orWrong, due}
+use Rattle.ticket.specs.Ticket.{nothingMore, tolLine, cLine, filled, factorLines, whiteLine, ticketOf}
 
 -- ---- what the code's answers say
 
-abbrev pub saysFormula : SaidFormula → Option Formula
-saysFormula F.Nothing = none
-saysFormula (F.Is x) = some x
+abbrev pub formulaIn : FormulaRead → Option Formula
+formulaIn F.Nothing = none
+formulaIn (F.Is x) = some x
 
-abbrev pub saysWhite : SaidWhite → Option White
-saysWhite W.Nothing = none
-saysWhite (W.Is x) = some x
+abbrev pub whiteIn : WhiteRead → Option White
+whiteIn W.Nothing = none
+whiteIn (W.Is x) = some x
 
-abbrev pub saysSpace : SaidSpace → Option Space
-saysSpace S.Nothing = none
-saysSpace (S.Is x) = some x
+abbrev pub spaceIn : SpaceRead → Option Space
+spaceIn S.Nothing = none
+spaceIn (S.Is x) = some x
 
-abbrev pub saysReading : SaidReading → Option Written
-saysReading R.Nothing = none
-saysReading (R.Is x) = some x
+abbrev pub readingIn : ReadingRead → Option Written
+readingIn R.Nothing = none
+readingIn (R.Is x) = some x
 
 -- the value of the first line, if it has the key and its LF
 unfoldable pub valueOf : (key s : List ℕ) → List ℕ
@@ -82,23 +83,22 @@ module _
   unfolding due valueOf
   due-value = due-cond (has 10 s && startsWith key (before 10 s)) n value (λ x. next x (after 10 s)) (drop (length key) (before 10 s)) e ∙ rw ev
 
-  pub due-wrong : {o : Option A} → o ≡ value v → o ≡ none → Wrong n ≡ due n key value next s
-  due-wrong eo h = sym (due-value ∙ rw (← eo, h))
-
-  pub due-next : {o : Option A} {x : A} {t : List ℕ} {p : Parsed} → o ≡ value v → o ≡ some x → t ≡ after 10 s → p ≡ next x t → p ≡ due n key value next s
-  due-next {x = x} eo h et ep = ep ∙ ap (next x) et ∙ sym (due-value ∙ rw (← eo, h))
+  -- wrong, or what the next line makes of x and t
+  pub due-read :
+      {o p : Option A} → o ≡ value v → o ≡ p → {t : List ℕ} → t ≡ after 10 s → {q : Parsed} → q ≡ orWrong n p (λ x. next x t) → q ≡ due n key value next s
+  due-read eo ep et eq = eq ∙ sym (due-value ∙ rw (← eo, ep, ← et))
 
 -- an empty value says nothing
 pub formula-of-nil : formulaNamed [] ≡ none
-unfolding formulaNamed sameBytes
+unfolding named sameBytes
 formula-of-nil = refl
 
 pub white-of-nil : whiteNamed [] ≡ none
-unfolding whiteNamed sameBytes
+unfolding named sameBytes
 white-of-nil = refl
 
 pub space-of-nil : spaceNamed [] ≡ none
-unfolding spaceNamed sameBytes
+unfolding named sameBytes
 space-of-nil = refl
 
 pub thousandths-of-nil : thousandthsOf [] ≡ none
@@ -108,6 +108,21 @@ thousandths-of-nil = refl
 pub reading-of-nil : (space : Space) → readingOf space [] ≡ none
 unfolding readingOf signedOf startsWith before indexOf decimalOf digitsOf
 reading-of-nil space = refl
+
+-- ---- a name, by what the code has of it: whether s is that of x
+
+pub named-none : {A : Type 0} (name : A → List ℕ) (s : List ℕ) → none ≡ named name [] s
+unfolding named
+named-none name s = refl
+
+module _ {A : Type 0} (name : A → List ℕ) (x : A) (xs : List A) (s : List ℕ) {b : Bool} (e : b ≡ sameBytes s (name x)) where
+  pub named-first : b ≡ true → some x ≡ named name (x ∷ xs) s
+  unfolding named
+  named-first h = sym (rw (← e, h))
+
+  pub named-other : b ≡ false → named name xs s ≡ named name (x ∷ xs) s
+  unfolding named
+  named-other h = sym (rw (← e, h))
 
 -- ---- a reading, by what the code has of it
 
@@ -137,12 +152,12 @@ unfolding nothingMore
 more-wrong n t [] e = absurd (e refl)
 more-wrong n t (x ∷ s) e = refl
 
-module _ (n : ℕ) (f : Formula) (w : White) (s : List ℕ) {b : Bool} (e : b ≡ startsWith (ascii "tol=") s) where
-  pub factors-missing : b ≡ true → tolLine n f w missing missing s ≡ factorLines n f w s
+module _ (n : ℕ) (p : Settings) (s : List ℕ) {b : Bool} (e : b ≡ startsWith (ascii "tol=") s) where
+  pub factors-missing : b ≡ true → tolLine n p s ≡ factorLines n p s
   unfolding factorLines
   factors-missing h = sym (rw (← e, h))
 
-  pub factors-given : b ≡ false → due n (ascii "l=") thousandthsOf (cLine (n + 1) f w) s ≡ factorLines n f w s
+  pub factors-given : b ≡ false → due n (ascii "l=") thousandthsOf (λ x. cLine (n + 1) (filled p x (p .c) (p .tolerance))) s ≡ factorLines n p s
   unfolding factorLines
   factors-given h = sym (rw (← e, h))
 

@@ -2,7 +2,6 @@
 use mathlib.Core.Path.{_∙_}
 use borrow.Author.Needs.{needs}
 use mir.Facts.{toZ-ofZ}
-use Rattle.lines.specs.Lines.{figure}
 use Rattle.lines.proofs.numbers.signed_figure.Statement.{statement}
 use Rattle.lines.proofs.numbers.signed_figure.Tie as tie
 

@@ -4,7 +4,7 @@ use native.Mathlib.Omega.{arith}
 use borrow.Author.Needs.{needs}
 use mir.Syntax.{w64}
 use mir.Val.{toZ, ofZ}
-use Rattle.sheet.specs.declared.difference.Differences.{Differences}
+use Rattle.sheet.specs.declared.differences.Differences.{Differences}
 use Rattle.report.specs.Report.Laws.{figures-length, figures-length-withheld}
 use Rattle.report.proofs.report.figures_len.Statement.{statement}
 use Rattle.report.proofs.report.figures_len.Tie as tie

@@ -9,14 +9,14 @@ put-lightness-requires : tie.Need-put-lightness-requires
 unfolding wordLines
 put-lightness-requires c κs =
     let start = c .before .before in
-    room-first (room-for-all (wordLines (start .args .rep)) (start .pre))
+    room-first (room-for-all (wordLines (start .args .j)) (start .pre))
 
 put-chroma-requires : tie.Need-put-chroma-requires
 unfolding wordLines
 put-chroma-requires c κs =
     let lightness = c .before .before .before in
     let start = lightness .before .before .before in
-    room-second (room-for-all (wordLines (start .args .rep)) (start .pre)) (lightness .put-lightness .ensures)
+    room-second (room-for-all (wordLines (start .args .j)) (start .pre)) (lightness .put-lightness .ensures)
 
 put-hue-requires : tie.Need-put-hue-requires
 unfolding wordLines
@@ -24,7 +24,7 @@ put-hue-requires c κs =
     let chroma = c .before .before .before in
     let lightness = chroma .before .before .before .before in
     let start = lightness .before .before .before in
-    let row = room-for-all (wordLines (start .args .rep)) (start .pre) in
+    let row = room-for-all (wordLines (start .args .j)) (start .pre) in
     room-third row (lightness .put-lightness .ensures) (chroma .put-chroma .ensures)
 
 put-verdict-requires : tie.Need-put-verdict-requires
@@ -34,7 +34,7 @@ put-verdict-requires c κs =
     let chroma = hue .before .before .before .before in
     let lightness = chroma .before .before .before .before in
     let start = lightness .before .before .before in
-    let row = room-for-all (wordLines (start .args .rep)) (start .pre) in
+    let row = room-for-all (wordLines (start .args .j)) (start .pre) in
     room-fourth row (lightness .put-lightness .ensures) (chroma .put-chroma .ensures) (hue .put-hue .ensures)
 
 returns : tie.Need-returns
@@ -45,7 +45,7 @@ returns c =
     let chroma = hue .before .before .before .before in
     let lightness = chroma .before .before .before .before in
     let start = lightness .before .before .before in
-    let row = room-for-all (wordLines (start .args .rep)) (start .pre) in
+    let row = room-for-all (wordLines (start .args .j)) (start .pre) in
     puts-joined
     (puts-four row (lightness .put-lightness .ensures) (chroma .put-chroma .ensures) (hue .put-hue .ensures) (verdict .put-verdict .ensures))
 

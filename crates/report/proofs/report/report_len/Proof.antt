@@ -7,10 +7,9 @@ use Rattle.report.proofs.report.report_len.Tie as tie
 
 returns : tie.Need-returns
 returns c =
-    let figures = c .before in
-    let settings = figures .before in
-    let start = settings .before .before in
-    let whole = report-length (start .args .rep) in
+    let settings = c .before .before in
+    let start = settings .before .before .before in
+    let whole = report-length (start .args .j) in
     omega arith
 
 pub report-len-spec : {M : Type 1} → statement M

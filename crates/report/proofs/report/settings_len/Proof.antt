@@ -8,8 +8,7 @@ use Rattle.report.proofs.report.settings_len.Tie as tie
 returns : tie.Need-returns
 returns c =
     let white = c .before .before in
-    let start = white .before .before in
-    let whole = settings-length (start .args .rep) in
+    let whole = settings-length (white .before .before .args .s) in
     (omega arith, omega arith)
 
 pub settings-len-spec : {M : Type 1} → statement M
@@ -17,11 +16,10 @@ settings-len-spec =
     tie.close
     (tie.spec
     (λ c κs. search needs)
-    (λ c κs. search needs)
-    (λ c. search needs)
     (λ c. search needs)
     (λ c κs. search needs)
     (λ c. search needs)
+    (λ c κs. search needs)
     (λ c. search needs)
     (λ c κs. search needs)
     (λ c. search needs)

@@ -7,9 +7,8 @@ use Rattle.report.proofs.report.words_len.Tie as tie
 
 returns : tie.Need-returns
 returns c =
-    let chroma = c .before in
-    let start = chroma .before .before in
-    let whole = words-length (start .args .rep) in
+    let chroma = c .before .before in
+    let whole = words-length (chroma .before .before .args .j) in
     (omega arith, omega arith)
 
 pub words-len-spec : {M : Type 1} → statement M
@@ -17,9 +16,11 @@ words-len-spec =
     tie.close
     (tie.spec
     (λ c κs. search needs)
-    (λ c κs. search needs)
     (λ c. search needs)
     (λ c κs. search needs)
     (λ c. search needs)
+    (λ c κs. search needs)
+    (λ c. search needs)
+    (λ c κs. search needs)
     (λ c. search needs)
     returns)

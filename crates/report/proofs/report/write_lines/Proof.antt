@@ -8,23 +8,26 @@ use Rattle.report.proofs.report.write_lines.Tie as tie
 put-settings-requires : tie.Need-put-settings-requires
 unfolding reportText
 put-settings-requires c κs =
-    let start = c .before .before .before in
-    room-first (room-for-all (reportParts (start .args .rep)) (start .pre))
+    let read = c .before .before in
+    let start = read .before .before in
+    room-first (room-for-all (reportParts (start .args .j)) (start .pre))
 
 put-figures-requires : tie.Need-put-figures-requires
 unfolding reportText
 put-figures-requires c κs =
     let settings = c .before .before .before in
-    let start = settings .before .before .before .before in
-    room-second (room-for-all (reportParts (start .args .rep)) (start .pre)) (settings .put-settings .ensures)
+    let read = settings .before .before .before in
+    let start = read .before .before in
+    room-second (room-for-all (reportParts (start .args .j)) (start .pre)) (settings .put-settings .ensures)
 
 put-words-requires : tie.Need-put-words-requires
 unfolding reportText
 put-words-requires c κs =
     let figures = c .before .before .before in
     let settings = figures .before .before .before .before in
-    let start = settings .before .before .before .before in
-    let row = room-for-all (reportParts (start .args .rep)) (start .pre) in
+    let read = settings .before .before .before in
+    let start = read .before .before in
+    let row = room-for-all (reportParts (start .args .j)) (start .pre) in
     room-third row (settings .put-settings .ensures) (figures .put-figures .ensures)
 
 returns : tie.Need-returns
@@ -33,8 +36,9 @@ returns c =
     let words = c .before .before in
     let figures = words .before .before .before .before in
     let settings = figures .before .before .before .before in
-    let start = settings .before .before .before .before in
-    let row = room-for-all (reportParts (start .args .rep)) (start .pre) in
+    let read = settings .before .before .before in
+    let start = read .before .before in
+    let row = room-for-all (reportParts (start .args .j)) (start .pre) in
     puts-three row (settings .put-settings .ensures) (figures .put-figures .ensures) (words .put-words .ensures) .bytes
 
 pub write-lines-spec : {M : Type 1} → statement M

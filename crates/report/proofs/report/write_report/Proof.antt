@@ -15,13 +15,13 @@ use Rattle.report.proofs.report.write_report.Tie as tie
 past-the-end : tie.Need-returns
 past-the-end c =
     let a = c .before .before .args in
-    record { number-is = sym (write-number-ten _ _ (a .rep) (omega arith)); room-is = sym (write-room-kept _ _ (a .rep) (omega arith)) }
+    record { number-is = sym (write-number-ten _ _ (a .j) (omega arith)); room-is = sym (write-room-kept _ _ (a .j) (omega arith)) }
 
 too-short : tie.Need-returns-2
 too-short c =
     let at-length = c .before in
     let a = at-length .before .before .before .args in
-    record { number-is = sym (write-number-ten _ _ (a .rep) (omega arith)); room-is = sym (write-room-kept _ _ (a .rep) (omega arith)) }
+    record { number-is = sym (write-number-ten _ _ (a .j) (omega arith)); room-is = sym (write-room-kept _ _ (a .j) (omega arith)) }
 
 written : tie.Need-returns-3
 written c =
@@ -31,11 +31,11 @@ written c =
     let a = at-length .before .before .before .args in
     let room = a .room .now in
     record {
-      number-is = sym (write-number-zero room (a .column) (a .rep) (omega arith));
+      number-is = sym (write-number-zero room (a .column) (a .j) (omega arith));
       room-is =
           ap (λ (l : List ℕ). take (a .column) room ++ (l ++ drop (length room - a .column) (drop (a .column) room))) (at-lines .write-lines .ensures)
-          ∙ part-put room (a .column) (reportText (a .rep)) (omega arith)
-          ∙ sym (write-room-put room (a .column) (a .rep) (omega arith));
+          ∙ part-put room (a .column) (reportText (a .j)) (omega arith)
+          ∙ sym (write-room-put room (a .column) (a .j) (omega arith));
     }
 
 pub write-report-spec : {M : Type 1} → statement M

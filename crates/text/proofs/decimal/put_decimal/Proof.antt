@@ -1,14 +1,9 @@
 -- The four pieces of the decimal are put one after the other. Assumes nothing.
-use mathlib.Core.Path.{_≡_, sym, ap}
-use Prim.Native.Nat.{ℕ}
 use borrow.Author.Needs.{needs}
-use Rattle.text.specs.Put.Laws.{room-as, puts-as, room-for-all, room-first, room-second, room-third, room-fourth, puts-four, puts-joined}
-use Rattle.text.specs.Decimal.{width, lastDigits, decimalPieces, decimalText}
+use Rattle.text.specs.Put.Laws.{room-for-all, room-first, room-second, room-third, room-fourth, puts-four, puts-joined}
+use Rattle.text.specs.Decimal.{decimalPieces, decimalText}
 use Rattle.text.proofs.decimal.put_decimal.Statement.{statement}
 use Rattle.text.proofs.decimal.put_decimal.Tie as tie
-
-same-digits : {k : ℕ} (n : ℕ) → k ≡ width n → lastDigits k n ≡ lastDigits (width n) n
-same-digits n e = ap (λ (i : ℕ). lastDigits i n) e
 
 put-minus-requires : tie.Need-put-minus-requires
 unfolding decimalText
@@ -16,36 +11,31 @@ put-minus-requires c κs =
     let start = c .before .before in
     room-first (room-for-all (decimalPieces (start .args .d)) (start .pre))
 
-put-digits-requires : tie.Need-put-digits-requires
+put-whole-requires : tie.Need-put-whole-requires
 unfolding decimalText
-put-digits-requires c κs =
-    let minus = c .before .before .before .before in
+put-whole-requires c κs =
+    let minus = c .before .before .before in
     let start = minus .before .before .before in
-    let row = room-for-all (decimalPieces (start .args .d)) (start .pre) in
-    room-as (sym (same-digits (start .args .d .whole) (c .width-of .ensures .0))) (room-second row (minus .put-minus .ensures))
+    room-second (room-for-all (decimalPieces (start .args .d)) (start .pre)) (minus .put-minus .ensures)
 
 put-requires : tie.Need-put-requires
 unfolding decimalText
 put-requires c κs =
     let whole = c .before .before .before .before in
-    let width = whole .before in
-    let minus = width .before .before .before .before in
+    let minus = whole .before .before .before .before in
     let start = minus .before .before .before in
     let row = room-for-all (decimalPieces (start .args .d)) (start .pre) in
-    let whole-put = puts-as (same-digits (start .args .d .whole) (width .width-of .ensures .0)) (whole .put-digits .ensures) in
-    room-third row (minus .put-minus .ensures) whole-put
+    room-third row (minus .put-minus .ensures) (whole .put-whole .ensures)
 
-put-digits-requires-2 : tie.Need-put-digits-requires-2
+put-digits-requires : tie.Need-put-digits-requires
 unfolding decimalText
-put-digits-requires-2 c κs =
+put-digits-requires c κs =
     let point = c .before .before .before .before in
     let whole = point .before .before .before .before .before in
-    let width = whole .before in
-    let minus = width .before .before .before .before in
+    let minus = whole .before .before .before .before in
     let start = minus .before .before .before in
     let row = room-for-all (decimalPieces (start .args .d)) (start .pre) in
-    let whole-put = puts-as (same-digits (start .args .d .whole) (width .width-of .ensures .0)) (whole .put-digits .ensures) in
-    room-fourth row (minus .put-minus .ensures) whole-put (point .put .ensures)
+    room-fourth row (minus .put-minus .ensures) (whole .put-whole .ensures) (point .put .ensures)
 
 returns : tie.Need-returns
 unfolding decimalText
@@ -53,23 +43,12 @@ returns c =
     let places = c .before .before in
     let point = places .before .before .before .before .before in
     let whole = point .before .before .before .before .before in
-    let width = whole .before in
-    let minus = width .before .before .before .before in
+    let minus = whole .before .before .before .before in
     let start = minus .before .before .before in
     let row = room-for-all (decimalPieces (start .args .d)) (start .pre) in
-    let whole-put = puts-as (same-digits (start .args .d .whole) (width .width-of .ensures .0)) (whole .put-digits .ensures) in
-    puts-joined (puts-four row (minus .put-minus .ensures) whole-put (point .put .ensures) (places .put-digits2 .ensures))
+    puts-joined (puts-four row (minus .put-minus .ensures) (whole .put-whole .ensures) (point .put .ensures) (places .put-digits .ensures))
 
 pub put-decimal-spec : {M : Type 1} → statement M
 put-decimal-spec =
     tie.close
-    (tie.spec
-    put-minus-requires
-    (λ c κs. search needs)
-    put-digits-requires
-    (λ c. search needs)
-    put-requires
-    (λ c. search needs)
-    put-digits-requires-2
-    (λ c. search needs)
-    returns)
+    (tie.spec put-minus-requires put-whole-requires (λ c. search needs) put-requires (λ c. search needs) put-digits-requires (λ c. search needs) returns)

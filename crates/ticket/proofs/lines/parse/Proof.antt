@@ -1,7 +1,7 @@
--- `lines::parse` meets its contract: the text is too long, or its first line is wrong, or the next has what it says. Assumes nothing.
-use mathlib.Core.Path.{ap, _∙_}
+-- The text is too long, or its first line is wrong, or the next has what it says. Assumes nothing.
+use mathlib.Core.Path.{refl, ap, _∙_}
 use borrow.Author.Needs.{needs}
-use Rattle.ticket.specs.Ticket.Laws.{saysFormula, due-wrong, due-next, formula-of-nil, ticket-of-long, ticket-of-short}
+use Rattle.ticket.specs.Ticket.Laws.{formulaIn, due-read, formula-of-nil, ticket-of-long, ticket-of-short}
 use Rattle.ticket.proofs.lines.parse.Statement.{statement}
 use Rattle.ticket.proofs.lines.parse.Tie as tie
 
@@ -13,7 +13,7 @@ wrong c =
     let read = c .before .before in
     let at-value = read .before in
     let short = at-value .before .before in
-    due-wrong _ _ _ _ _ formula-of-nil (at-value .value .ensures) (read .formula-named .ensures) (ap saysFormula (c .enum-told .given .1))
+    due-read _ _ _ _ _ formula-of-nil (at-value .value .ensures) (read .formula-named .ensures) (ap formulaIn (c .enum-told .given .1)) refl refl
     ∙ ticket-of-short _ (short .if1 .left)
 
 right : tie.Need-returns-3
@@ -23,7 +23,7 @@ right c =
     let read = bound .before .before in
     let at-value = read .before in
     let short = at-value .before .before in
-    due-next _ _ _ _ _ formula-of-nil (at-value .value .ensures) (read .formula-named .ensures) (ap saysFormula (bound .x .given .1))
+    due-read _ _ _ _ _ formula-of-nil (at-value .value .ensures) (read .formula-named .ensures) (ap formulaIn (bound .x .given .1))
     (rest .part-after .ensures) (c .white-line .ensures)
     ∙ ticket-of-short _ (short .if1 .left)
 

@@ -1,8 +1,8 @@
--- `lines::space_line` meets its contract: the line is wrong, or the next has what it says. Assumes nothing.
-use mathlib.Core.Path.{ap}
+-- The line is wrong, or the next has what it says. Assumes nothing.
+use mathlib.Core.Path.{refl, ap}
 use borrow.Author.Needs.{needs}
 use Rattle.ticket.specs.Ticket.{spaceLine}
-use Rattle.ticket.specs.Ticket.Laws.{saysSpace, due-wrong, due-next, space-of-nil}
+use Rattle.ticket.specs.Ticket.Laws.{spaceIn, due-read, space-of-nil}
 use Rattle.ticket.proofs.lines.space_line.Statement.{statement}
 use Rattle.ticket.proofs.lines.space_line.Tie as tie
 
@@ -10,7 +10,7 @@ wrong : tie.Need-returns
 unfolding spaceLine
 wrong c =
     let read = c .before .before in
-    due-wrong _ _ _ _ _ space-of-nil (read .before .value .ensures) (read .space-named .ensures) (ap saysSpace (c .enum-told .given .1))
+    due-read _ _ _ _ _ space-of-nil (read .before .value .ensures) (read .space-named .ensures) (ap spaceIn (c .enum-told .given .1)) refl refl
 
 right : tie.Need-returns-2
 unfolding spaceLine
@@ -18,7 +18,7 @@ right c =
     let rest = c .before in
     let bound = rest .before .before in
     let read = bound .before .before in
-    due-next _ _ _ _ _ space-of-nil (read .before .value .ensures) (read .space-named .ensures) (ap saysSpace (bound .x .given .1))
+    due-read _ _ _ _ _ space-of-nil (read .before .value .ensures) (read .space-named .ensures) (ap spaceIn (bound .x .given .1))
     (rest .part-after .ensures) (c .ref-line .ensures)
 
 pub space-line-spec : {M : Type 1} → statement M

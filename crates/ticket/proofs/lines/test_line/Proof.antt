@@ -1,8 +1,8 @@
--- `lines::test_line` meets its contract: the line is wrong, or right, or wrong is what follows it. Assumes nothing.
-use mathlib.Core.Path.{ap}
+-- The line is wrong, or right, or wrong is what follows it. Assumes nothing.
+use mathlib.Core.Path.{refl, ap}
 use borrow.Author.Needs.{needs}
 use Rattle.ticket.specs.Ticket.{testLine}
-use Rattle.ticket.specs.Ticket.Laws.{saysReading, due-wrong, due-next, reading-of-nil, more-right, more-wrong}
+use Rattle.ticket.specs.Ticket.Laws.{readingIn, due-read, reading-of-nil, more-right, more-wrong}
 use Rattle.ticket.proofs.lines.test_line.Statement.{statement}
 use Rattle.ticket.proofs.lines.test_line.Tie as tie
 
@@ -10,7 +10,7 @@ wrong : tie.Need-returns
 unfolding testLine
 wrong c =
     let read = c .before .before in
-    due-wrong _ _ _ _ _ (reading-of-nil _) (read .before .value .ensures) (read .reading-of .ensures) (ap saysReading (c .enum-told .given .1))
+    due-read _ _ _ _ _ (reading-of-nil _) (read .before .value .ensures) (read .reading-of .ensures) (ap readingIn (c .enum-told .given .1)) refl refl
 
 right : tie.Need-returns-2
 unfolding testLine
@@ -18,7 +18,7 @@ right c =
     let rest = c .before in
     let bound = rest .before .before in
     let read = bound .before .before in
-    due-next _ _ _ _ _ (reading-of-nil _) (read .before .value .ensures) (read .reading-of .ensures) (ap saysReading (bound .test .given .1))
+    due-read _ _ _ _ _ (reading-of-nil _) (read .before .value .ensures) (read .reading-of .ensures) (ap readingIn (bound .test .given .1))
     (rest .part-after .ensures) (more-right _ _ _ (c .if1 .taken))
 
 more : tie.Need-returns-3
@@ -27,7 +27,7 @@ more c =
     let rest = c .before in
     let bound = rest .before .before in
     let read = bound .before .before in
-    due-next _ _ _ _ _ (reading-of-nil _) (read .before .value .ensures) (read .reading-of .ensures) (ap saysReading (bound .test .given .1))
+    due-read _ _ _ _ _ (reading-of-nil _) (read .before .value .ensures) (read .reading-of .ensures) (ap readingIn (bound .test .given .1))
     (rest .part-after .ensures) (more-wrong _ _ _ (c .if1 .left))
 
 pub test-line-spec : {M : Type 1} → statement M

@@ -1,9 +1,9 @@
--- `lines::tol_line` meets its contract: the line is wrong, or the next has what it says. Assumes nothing.
-use mathlib.Core.Path.{ap}
+-- The line is wrong, or the next has what it says. Assumes nothing.
+use mathlib.Core.Path.{refl, ap}
 use borrow.Author.Needs.{needs}
-use Rattle.numerals.specs.Number.Laws.{saysNumber}
+use Rattle.text.specs.Number.Laws.{numberIn}
 use Rattle.ticket.specs.Ticket.{tolLine}
-use Rattle.ticket.specs.Ticket.Laws.{due-wrong, due-next, thousandths-of-nil}
+use Rattle.ticket.specs.Ticket.Laws.{due-read, thousandths-of-nil}
 use Rattle.ticket.proofs.lines.tol_line.Statement.{statement}
 use Rattle.ticket.proofs.lines.tol_line.Tie as tie
 
@@ -11,7 +11,7 @@ wrong : tie.Need-returns
 unfolding tolLine
 wrong c =
     let read = c .before .before in
-    due-wrong _ _ _ _ _ thousandths-of-nil (read .before .value .ensures) (read .thousandths .ensures) (ap saysNumber (c .enum-told .given .1))
+    due-read _ _ _ _ _ thousandths-of-nil (read .before .value .ensures) (read .thousandths .ensures) (ap numberIn (c .enum-told .given .1)) refl refl
 
 right : tie.Need-returns-2
 unfolding tolLine
@@ -19,7 +19,7 @@ right c =
     let rest = c .before in
     let bound = rest .before .before in
     let read = bound .before .before in
-    due-next _ _ _ _ _ thousandths-of-nil (read .before .value .ensures) (read .thousandths .ensures) (ap saysNumber (bound .x .given .1))
+    due-read _ _ _ _ _ thousandths-of-nil (read .before .value .ensures) (read .thousandths .ensures) (ap numberIn (bound .x .given .1))
     (rest .part-after .ensures) (c .space-line .ensures)
 
 pub tol-line-spec : {M : Type 1} → statement M

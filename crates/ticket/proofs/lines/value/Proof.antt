@@ -2,7 +2,7 @@
 use mathlib.Core.Path.{sym, _∙_}
 use lib.Seq.{length-take-le}
 use borrow.Author.Needs.{needs}
-use Rattle.numerals.specs.Bytes.Laws.{take-before, length-le-of-starts}
+use Rattle.text.specs.Bytes.Laws.{take-before, length-le-of-starts}
 use Rattle.ticket.specs.Ticket.Laws.{value-nil-of-no-line, value-nil-of-key, drop-key-value}
 use Rattle.ticket.proofs.lines.value.Statement.{statement}
 use Rattle.ticket.proofs.lines.value.Tie as tie

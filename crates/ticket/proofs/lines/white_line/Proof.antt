@@ -1,8 +1,8 @@
--- `lines::white_line` meets its contract: the line is wrong, or the next has what it says. Assumes nothing.
-use mathlib.Core.Path.{ap}
+-- The line is wrong, or the next has what it says. Assumes nothing.
+use mathlib.Core.Path.{refl, ap}
 use borrow.Author.Needs.{needs}
 use Rattle.ticket.specs.Ticket.{whiteLine}
-use Rattle.ticket.specs.Ticket.Laws.{saysWhite, due-wrong, due-next, white-of-nil}
+use Rattle.ticket.specs.Ticket.Laws.{whiteIn, due-read, white-of-nil}
 use Rattle.ticket.proofs.lines.white_line.Statement.{statement}
 use Rattle.ticket.proofs.lines.white_line.Tie as tie
 
@@ -10,7 +10,7 @@ wrong : tie.Need-returns
 unfolding whiteLine
 wrong c =
     let read = c .before .before in
-    due-wrong _ _ _ _ _ white-of-nil (read .before .value .ensures) (read .white-named .ensures) (ap saysWhite (c .enum-told .given .1))
+    due-read _ _ _ _ _ white-of-nil (read .before .value .ensures) (read .white-named .ensures) (ap whiteIn (c .enum-told .given .1)) refl refl
 
 right : tie.Need-returns-2
 unfolding whiteLine
@@ -18,7 +18,7 @@ right c =
     let rest = c .before in
     let bound = rest .before .before in
     let read = bound .before .before in
-    due-next _ _ _ _ _ white-of-nil (read .before .value .ensures) (read .white-named .ensures) (ap saysWhite (bound .x .given .1))
+    due-read _ _ _ _ _ white-of-nil (read .before .value .ensures) (read .white-named .ensures) (ap whiteIn (bound .x .given .1))
     (rest .part-after .ensures) (c .factor-lines .ensures)
 
 pub white-line-spec : {M : Type 1} → statement M

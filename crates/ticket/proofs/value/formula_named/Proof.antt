@@ -1,43 +1,40 @@
--- `value::formula_named` meets its contract, name by name. Assumes nothing.
-use mathlib.Core.Path.{sym, _∙_}
+-- Name by name: where s is none of the first names, the others decide. Assumes nothing.
+use mathlib.Core.Path.{_≡_, _∙_}
+use mathlib.Core.List.{List, [], _∷_}
+use Prim.Native.Nat.{ℕ}
 use borrow.Author.Needs.{needs}
-use Rattle.ticket.specs.Ticket.{formulaNamed}
+use Rattle.sheet.specs.declared.formula.Formula.the-variants.{CIE94, CMC}
+use Rattle.text.specs.Names.{formulaName}
+use Rattle.ticket.specs.Ticket.{named, formulaNamed}
+use Rattle.ticket.specs.Ticket.Laws.{named-none, named-first, named-other}
 use Rattle.ticket.proofs.value.formula_named.Statement.{statement}
 use Rattle.ticket.proofs.value.formula_named.Tie as tie
 
+module _ (c : tie.Else1) where
+  abbrev s : List ℕ
+  s = c .before .before .before .before .args .s .now
+
+  not-first : named formulaName (CIE94 ∷ CMC ∷ []) s ≡ formulaNamed s
+  not-first = named-other _ _ _ _ (c .before .same .ensures) (c .if1 .left)
+
+module _ (c : tie.Else2) where
+  abbrev s2 : List ℕ
+  s2 = s (c .before .before .before)
+
+  not-second : named formulaName (CMC ∷ []) s2 ≡ formulaNamed s2
+  not-second = named-other _ _ _ _ (c .before .same2 .ensures) (c .if2 .left) ∙ not-first (c .before .before .before)
+
 cielab : tie.Need-returns
-unfolding formulaNamed
-cielab c = simp (sym (c .before .same .ensures) ∙ c .if1 .taken)
+cielab c = named-first _ _ _ _ (c .before .same .ensures) (c .if1 .taken)
 
 cie94 : tie.Need-returns-2
-unfolding formulaNamed
-cie94 c =
-    let at-2 = c .before in
-    let not-1 = at-2 .before .before in
-    let e1 = sym (not-1 .before .same .ensures) ∙ not-1 .if1 .left in
-    simp (e1, sym (at-2 .same2 .ensures) ∙ c .if2 .taken)
+cie94 c = named-first _ _ _ _ (c .before .same2 .ensures) (c .if2 .taken) ∙ not-first (c .before .before .before)
 
 cmc : tie.Need-returns-3
-unfolding formulaNamed
-cmc c =
-    let at-3 = c .before in
-    let not-2 = at-3 .before .before in
-    let at-2 = not-2 .before in
-    let not-1 = at-2 .before .before in
-    let e1 = sym (not-1 .before .same .ensures) ∙ not-1 .if1 .left in
-    let e2 = sym (at-2 .same2 .ensures) ∙ not-2 .if2 .left in
-    simp (e1, e2, sym (at-3 .same3 .ensures) ∙ c .if3 .taken)
+cmc c = named-first _ _ _ _ (c .before .same3 .ensures) (c .if3 .taken) ∙ not-second (c .before .before .before)
 
 no-name : tie.Need-returns-4
-unfolding formulaNamed
-no-name c =
-    let at-3 = c .before in
-    let not-2 = at-3 .before .before in
-    let at-2 = not-2 .before in
-    let not-1 = at-2 .before .before in
-    let e1 = sym (not-1 .before .same .ensures) ∙ not-1 .if1 .left in
-    let e2 = sym (at-2 .same2 .ensures) ∙ not-2 .if2 .left in
-    simp (e1, e2, sym (at-3 .same3 .ensures) ∙ c .if3 .left)
+no-name c = named-none _ _ ∙ named-other _ _ _ _ (c .before .same3 .ensures) (c .if3 .left) ∙ not-second (c .before .before .before)
 
 pub formula-named-spec : {M : Type 1} → statement M
 formula-named-spec =

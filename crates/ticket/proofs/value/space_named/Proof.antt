@@ -1,29 +1,29 @@
--- `value::space_named` meets its contract, name by name. Assumes nothing.
-use mathlib.Core.Path.{sym, _∙_}
+-- Name by name: where s is none of the first names, the others decide. Assumes nothing.
+use mathlib.Core.Path.{_≡_, _∙_}
+use mathlib.Core.List.{List, [], _∷_}
+use Prim.Native.Nat.{ℕ}
 use borrow.Author.Needs.{needs}
-use Rattle.ticket.specs.Ticket.{spaceNamed}
+use Rattle.ticket.specs.declared.value.Space.the-variants.{Lab}
+use Rattle.ticket.specs.Ticket.{named, spaceName, spaceNamed}
+use Rattle.ticket.specs.Ticket.Laws.{named-none, named-first, named-other}
 use Rattle.ticket.proofs.value.space_named.Statement.{statement}
 use Rattle.ticket.proofs.value.space_named.Tie as tie
 
+module _ (c : tie.Else1) where
+  abbrev s : List ℕ
+  s = c .before .before .before .before .args .s .now
+
+  not-first : named spaceName (Lab ∷ []) s ≡ spaceNamed s
+  not-first = named-other _ _ _ _ (c .before .same .ensures) (c .if1 .left)
+
 xyz : tie.Need-returns
-unfolding spaceNamed
-xyz c = simp (sym (c .before .same .ensures) ∙ c .if1 .taken)
+xyz c = named-first _ _ _ _ (c .before .same .ensures) (c .if1 .taken)
 
 lab : tie.Need-returns-2
-unfolding spaceNamed
-lab c =
-    let at-2 = c .before in
-    let not-1 = at-2 .before .before in
-    let e1 = sym (not-1 .before .same .ensures) ∙ not-1 .if1 .left in
-    simp (e1, sym (at-2 .same2 .ensures) ∙ c .if2 .taken)
+lab c = named-first _ _ _ _ (c .before .same2 .ensures) (c .if2 .taken) ∙ not-first (c .before .before .before)
 
 no-name : tie.Need-returns-3
-unfolding spaceNamed
-no-name c =
-    let at-2 = c .before in
-    let not-1 = at-2 .before .before in
-    let e1 = sym (not-1 .before .same .ensures) ∙ not-1 .if1 .left in
-    simp (e1, sym (at-2 .same2 .ensures) ∙ c .if2 .left)
+no-name c = named-none _ _ ∙ named-other _ _ _ _ (c .before .same2 .ensures) (c .if2 .left) ∙ not-first (c .before .before .before)
 
 pub space-named-spec : {M : Type 1} → statement M
 space-named-spec =

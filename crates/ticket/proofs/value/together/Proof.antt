@@ -5,7 +5,7 @@ use borrow.Author.Needs.{needs}
 use Rattle.reading.specs.declared.decimal.Decimal.{Decimal}
 use Rattle.colour.specs.declared.placed.Written.{Written}
 use Rattle.ticket.specs.declared.value.Space.{Space}
-use Rattle.numerals.specs.Number.Laws.{saysSigned}
+use Rattle.text.specs.Number.Laws.{signedIn}
 use Rattle.ticket.specs.Ticket.{inSpace, three}
 use Rattle.ticket.proofs.value.together.Statement.{statement}
 use Rattle.ticket.proofs.value.together.Tie as tie
@@ -22,7 +22,7 @@ read c =
     let y = second .before in
     let first = y .before .before in
     let x = first .before in
-    all-three _ (ap saysSigned (x .p .given .1)) (ap saysSigned (y .q .given .1)) (ap saysSigned (z .r .given .1)) (c .in-space .ensures)
+    all-three _ (ap signedIn (x .p .given .1)) (ap signedIn (y .q .given .1)) (ap signedIn (z .r .given .1)) (c .in-space .ensures)
 
 pub together-spec : {M : Type 1} → statement M
 together-spec =

@@ -1,60 +1,50 @@
--- `value::white_named` meets its contract, name by name. Assumes nothing.
-use mathlib.Core.Path.{sym, _∙_}
+-- Name by name: where s is none of the first names, the others decide. Assumes nothing.
+use mathlib.Core.Path.{_≡_, _∙_}
+use mathlib.Core.List.{List, [], _∷_}
+use Prim.Native.Nat.{ℕ}
 use borrow.Author.Needs.{needs}
-use Rattle.ticket.specs.Ticket.{whiteNamed}
+use Rattle.colour.specs.declared.white.White.the-variants.{D65Two, CTen, CTwo}
+use Rattle.text.specs.Names.{whiteName}
+use Rattle.ticket.specs.Ticket.{named, whiteNamed}
+use Rattle.ticket.specs.Ticket.Laws.{named-none, named-first, named-other}
 use Rattle.ticket.proofs.value.white_named.Statement.{statement}
 use Rattle.ticket.proofs.value.white_named.Tie as tie
 
+module _ (c : tie.Else1) where
+  abbrev s : List ℕ
+  s = c .before .before .before .before .args .s .now
+
+  not-first : named whiteName (D65Two ∷ CTen ∷ CTwo ∷ []) s ≡ whiteNamed s
+  not-first = named-other _ _ _ _ (c .before .same .ensures) (c .if1 .left)
+
+module _ (c : tie.Else2) where
+  abbrev s2 : List ℕ
+  s2 = s (c .before .before .before)
+
+  not-second : named whiteName (CTen ∷ CTwo ∷ []) s2 ≡ whiteNamed s2
+  not-second = named-other _ _ _ _ (c .before .same2 .ensures) (c .if2 .left) ∙ not-first (c .before .before .before)
+
+module _ (c : tie.Else3) where
+  abbrev s3 : List ℕ
+  s3 = s2 (c .before .before .before)
+
+  not-third : named whiteName (CTwo ∷ []) s3 ≡ whiteNamed s3
+  not-third = named-other _ _ _ _ (c .before .same3 .ensures) (c .if3 .left) ∙ not-second (c .before .before .before)
+
 d65-10 : tie.Need-returns
-unfolding whiteNamed
-d65-10 c = simp (sym (c .before .same .ensures) ∙ c .if1 .taken)
+d65-10 c = named-first _ _ _ _ (c .before .same .ensures) (c .if1 .taken)
 
 d65-2 : tie.Need-returns-2
-unfolding whiteNamed
-d65-2 c =
-    let at-2 = c .before in
-    let not-1 = at-2 .before .before in
-    let e1 = sym (not-1 .before .same .ensures) ∙ not-1 .if1 .left in
-    simp (e1, sym (at-2 .same2 .ensures) ∙ c .if2 .taken)
+d65-2 c = named-first _ _ _ _ (c .before .same2 .ensures) (c .if2 .taken) ∙ not-first (c .before .before .before)
 
 c-10 : tie.Need-returns-3
-unfolding whiteNamed
-c-10 c =
-    let at-3 = c .before in
-    let not-2 = at-3 .before .before in
-    let at-2 = not-2 .before in
-    let not-1 = at-2 .before .before in
-    let e1 = sym (not-1 .before .same .ensures) ∙ not-1 .if1 .left in
-    let e2 = sym (at-2 .same2 .ensures) ∙ not-2 .if2 .left in
-    simp (e1, e2, sym (at-3 .same3 .ensures) ∙ c .if3 .taken)
+c-10 c = named-first _ _ _ _ (c .before .same3 .ensures) (c .if3 .taken) ∙ not-second (c .before .before .before)
 
 c-2 : tie.Need-returns-4
-unfolding whiteNamed
-c-2 c =
-    let at-4 = c .before in
-    let not-3 = at-4 .before .before in
-    let at-3 = not-3 .before in
-    let not-2 = at-3 .before .before in
-    let at-2 = not-2 .before in
-    let not-1 = at-2 .before .before in
-    let e1 = sym (not-1 .before .same .ensures) ∙ not-1 .if1 .left in
-    let e2 = sym (at-2 .same2 .ensures) ∙ not-2 .if2 .left in
-    let e3 = sym (at-3 .same3 .ensures) ∙ not-3 .if3 .left in
-    simp (e1, e2, e3, sym (at-4 .same4 .ensures) ∙ c .if4 .taken)
+c-2 c = named-first _ _ _ _ (c .before .same4 .ensures) (c .if4 .taken) ∙ not-third (c .before .before .before)
 
 no-name : tie.Need-returns-5
-unfolding whiteNamed
-no-name c =
-    let at-4 = c .before in
-    let not-3 = at-4 .before .before in
-    let at-3 = not-3 .before in
-    let not-2 = at-3 .before .before in
-    let at-2 = not-2 .before in
-    let not-1 = at-2 .before .before in
-    let e1 = sym (not-1 .before .same .ensures) ∙ not-1 .if1 .left in
-    let e2 = sym (at-2 .same2 .ensures) ∙ not-2 .if2 .left in
-    let e3 = sym (at-3 .same3 .ensures) ∙ not-3 .if3 .left in
-    simp (e1, e2, e3, sym (at-4 .same4 .ensures) ∙ c .if4 .left)
+no-name c = named-none _ _ ∙ named-other _ _ _ _ (c .before .same4 .ensures) (c .if4 .left) ∙ not-third (c .before .before .before)
 
 pub white-named-spec : {M : Type 1} → statement M
 white-named-spec =

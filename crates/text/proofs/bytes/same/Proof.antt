@@ -1,0 +1,17 @@
+-- `bytes::same` meets its contract, in either branch. Assumes nothing.
+use borrow.Author.Needs.{needs}
+use borrow.Author.Tests.{eq-eqb, ne-eqb}
+use Rattle.text.specs.Bytes.{sameBytes}
+use Rattle.text.proofs.bytes.same.Statement.{statement}
+use Rattle.text.proofs.bytes.same.Tie as tie
+
+returns : tie.Need-returns
+unfolding sameBytes
+returns c = simp (eq-eqb _ _ (c .before .if1 .taken)) (c .starts .ensures)
+
+returns-2 : tie.Need-returns-2
+unfolding sameBytes
+returns-2 c = simp (ne-eqb _ _ (c .if1 .left))
+
+pub same-spec : {M : Type 1} → statement M
+same-spec = tie.close (tie.spec (λ c κs. search needs) returns returns-2)
