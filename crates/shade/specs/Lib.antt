@@ -1,2 +1,3 @@
--- What the contracts of `shade` cite.
-pub mod Shade
+-- What is shown of the contracts of `shade`.
+-- any two outcomes that one admits are equal
+pub mod One

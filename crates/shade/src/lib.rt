@@ -1,17 +1,15 @@
 // The C entries of libshade.a, one call each. include/shade.h says the same for C.
+use calls::judge_call;
+use calls::load_call;
+use calls::ticket_call;
 use colour::placed::Reading;
-use standard::load::Load;
-use station::calls::judge_call;
-use station::calls::load_call;
-use station::calls::ticket_call;
 ghost use mathlib.Core.Path.{_≡_};
 ghost use mathlib.Core.List.{List};
 ghost use Rattle.colour.specs.declared.placed.Reading.the-variants.{Xyz, Lab};
-ghost use Rattle.standard.specs.Runs.{Call, lastAccepted};
-ghost use Rattle.stored.specs.Record.{zeros};
-ghost use Rattle.station.specs.Calls.{Gives, loadCall, judgeCall, ticketCall};
-ghost use Rattle.station.specs.Runs.{sliceAfter, freshJudge};
-ghost use Rattle.shade.specs.Shade.{loadOf};
+ghost use Rattle.station.specs.Record.{zeros};
+ghost use Rattle.station.specs.Runs.{lastAccepted, fresh};
+ghost use Rattle.calls.specs.Calls.{Gives, loadCall, judgeCall, ticketCall};
+ghost use Rattle.calls.specs.Runs.{Call, sliceAfter, loads};
 
 #[no_mangle]
 pub extern "C" fn shade_load_xyz(
@@ -25,19 +23,16 @@ pub extern "C" fn shade_load_xyz(
     y: f64,
     z: f64,
 ) -> u32
-    ensures { λ n. ⌜ Gives (loadCall (now (station .entry)) (loadOf formula white l c tolerance (Xyz x y z))) n (now (station .exit)) ⌝ }
+    ensures { λ n. ⌜ Gives (loadCall (now (station .entry)) formula white l c tolerance (Xyz x y z)) n (now (station .exit)) ⌝ }
 {
-    let reference = Reading::Xyz(x, y, z);
     load_call(
         station,
-        Load {
-            formula,
-            white,
-            l,
-            c,
-            tolerance,
-            reference,
-        },
+        formula,
+        white,
+        l,
+        c,
+        tolerance,
+        Reading::Xyz(x, y, z),
     )
 }
 
@@ -53,19 +48,16 @@ pub extern "C" fn shade_load_lab(
     a: f64,
     b: f64,
 ) -> u32
-    ensures { λ n. ⌜ Gives (loadCall (now (station .entry)) (loadOf formula white l c tolerance (Lab lightness a b))) n (now (station .exit)) ⌝ }
+    ensures { λ n. ⌜ Gives (loadCall (now (station .entry)) formula white l c tolerance (Lab lightness a b)) n (now (station .exit)) ⌝ }
 {
-    let reference = Reading::Lab(lightness, a, b);
     load_call(
         station,
-        Load {
-            formula,
-            white,
-            l,
-            c,
-            tolerance,
-            reference,
-        },
+        formula,
+        white,
+        l,
+        c,
+        tolerance,
+        Reading::Lab(lightness, a, b),
     )
 }
 
@@ -79,7 +71,7 @@ pub extern "C" fn shade_judge_xyz(
     column: usize,
 ) -> u32
     ensures { λ n. ⌜ Gives (judgeCall (now (station .entry)) (Xyz x y z) (now (room .entry)) column) n (now (room .exit)) ⌝ }
-    ensures run { λ n. ⌜ ((cs : List Call) → now (station .entry) ≡ sliceAfter zeros cs → Gives (freshJudge (lastAccepted cs) (Xyz x y z) (now (room .entry)) column) n (now (room .exit))) ⌝ }
+    ensures run { λ n. ⌜ ((cs : List Call) → now (station .entry) ≡ sliceAfter zeros cs → Gives (judgeCall (fresh (lastAccepted (loads cs))) (Xyz x y z) (now (room .entry)) column) n (now (room .exit))) ⌝ }
 {
     judge_call(station, Reading::Xyz(x, y, z), room, column)
 }
@@ -94,7 +86,7 @@ pub extern "C" fn shade_judge_lab(
     column: usize,
 ) -> u32
     ensures { λ n. ⌜ Gives (judgeCall (now (station .entry)) (Lab lightness a b) (now (room .entry)) column) n (now (room .exit)) ⌝ }
-    ensures run { λ n. ⌜ ((cs : List Call) → now (station .entry) ≡ sliceAfter zeros cs → Gives (freshJudge (lastAccepted cs) (Lab lightness a b) (now (room .entry)) column) n (now (room .exit))) ⌝ }
+    ensures run { λ n. ⌜ ((cs : List Call) → now (station .entry) ≡ sliceAfter zeros cs → Gives (judgeCall (fresh (lastAccepted (loads cs))) (Lab lightness a b) (now (room .entry)) column) n (now (room .exit))) ⌝ }
 {
     judge_call(station, Reading::Lab(lightness, a, b), room, column)
 }

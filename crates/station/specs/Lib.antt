@@ -1,5 +1,5 @@
 -- What the contracts of `station` cite, and the laws that callers go by.
--- what the calls on lent slices answer and leave
-pub mod Calls
--- runs of calls
+-- the standard in 20 bytes
+pub mod Record
+-- runs of loads
 pub mod Runs

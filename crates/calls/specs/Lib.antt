@@ -1,0 +1,7 @@
+-- What the contracts of `calls` cite, and the laws that callers go by.
+-- what a load, a judgement and a ticket come to
+pub mod Outcome
+-- what the calls on lent slices answer and leave
+pub mod Calls
+-- runs of calls
+pub mod Runs
