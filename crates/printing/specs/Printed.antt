@@ -1,35 +1,25 @@
 -- 01-scope.md, "Ticket and report": what the program prints for a text. `Printed/Laws.antt` has each way out and that there is one outcome,
 -- `Printed/Cases.antt` whole texts with what is printed for them. Assumes nothing.
 use mathlib.Core.Path.{_≡_, sym, _∙_}
-use mathlib.Core.Bool.{Bool, false, cond}
+use mathlib.Core.Bool.{Bool, cond}
 use mathlib.Core.List.{List, [], _∷_}
 use Prim.Native.Nat.{ℕ}
 use lib.Dec.{leb}
 use lib.ListN.{length}
 use Rattle.text.specs.Ascii.{ascii}
 use Rattle.text.specs.Put.{putAt, joined}
-use Rattle.text.specs.Decimal.{width, lastDigits}
-use Rattle.text.specs.declared.decimal.Shown.{Shown}
+use Rattle.text.specs.Decimal.{wholeText}
 use Rattle.ticket.specs.Ticket.{ticketOf}
 use Rattle.ticket.specs.declared.lines.Parsed.{Parsed}
 use Rattle.ticket.specs.declared.lines.Parsed.the-variants.{Right, Wrong}
 use Rattle.report.specs.Report.{reportText}
 use Rattle.standard.specs.declared.judge.Outcome.{Outcome}
-use Rattle.standard.specs.declared.judge.Outcome.the-variants.{Refused, Said}
-use Rattle.written.specs.Ticket.{ticketOutcome}
-use Rattle.station.specs.Calls.{reportOf}
+use Rattle.standard.specs.declared.judge.Outcome.the-variants.{Refused, Judged}
+use Rattle.calls.specs.Outcome.{ticketOutcome}
 pub mod Laws
 pub mod Cases
 
 -- ---- the line of a refusal
-
--- a whole number without leading zeros
-unfoldable pub wholeText : ℕ → List ℕ
-wholeText n = lastDigits (width n) n
-
--- the decimal that has these digits before its point
-abbrev pub whole : ℕ → Shown
-whole n = record { places = 0; minus = false; whole = n; units = 0 }
 
 -- refused=7 line=3
 abbrev pub refusalPieces : (number line : ℕ) → List (List ℕ)
@@ -47,7 +37,7 @@ lineOf (Wrong line) = line
 
 abbrev pub outcomeText : Outcome → (line : ℕ) → List ℕ
 outcomeText (Refused number) line = refusalLine number line
-outcomeText (Said j) line = reportText (reportOf j)
+outcomeText (Judged j) line = reportText j
 
 -- THE PROGRAM: from the bytes of standard input to those of standard output
 unfoldable pub printedText : List ℕ → List ℕ

@@ -1,15 +1,14 @@
 // What the program prints for a text.
 mod refusal;
 
+use calls::ticket_outcome;
 use refusal::print_refusal;
-use report::Report;
 use report::report_len;
 use report::write_report;
+use standard::judge::Judgement;
 use standard::judge::Outcome;
-use station::calls::report_of;
 use ticket::lines::Parsed;
 use ticket::lines::parse;
-use written::ticket_outcome;
 ghost use mathlib.Core.Path.{_≡_};
 ghost use Rattle.report.specs.Report.{reportText};
 ghost use Rattle.printing.specs.Printed.{Prints, lineOf, printedText};
@@ -24,11 +23,11 @@ fn line_of(p: Parsed) -> u32
     }
 }
 
-fn print_report(rep: Report, out: &mut [u8]) -> usize
-    ensures { λ n. ⌜ Prints (now (out .entry)) (reportText rep) n (now (out .exit)) ⌝ }
+fn print_report(j: Judgement, out: &mut [u8]) -> usize
+    ensures { λ n. ⌜ Prints (now (out .entry)) (reportText j) n (now (out .exit)) ⌝ }
 {
-    if write_report(out, 0, rep) == 0 {
-        report_len(rep)
+    if write_report(out, 0, j) == 0 {
+        report_len(j)
     } else {
         0
     }
@@ -41,7 +40,7 @@ pub fn printed(text: &[u8], out: &mut [u8]) -> usize
 {
     let p = parse(text);
     match ticket_outcome(p) {
-        Outcome::Refused(number) => print_refusal(number, line_of(p), out),
-        Outcome::Said(j) => print_report(report_of(j), out),
+        Outcome::Refused(number) => print_refusal(number as u64, line_of(p) as u64, out),
+        Outcome::Judged(j) => print_report(j, out),
     }
 }

@@ -14,14 +14,14 @@ refused c =
     (refusal-printed _ (at-outcome .before .parse .ensures) (at-outcome .ticket-outcome .ensures) (at-number .number .given .1) (at-line .line-of .ensures))
     (at-printing .print-refusal .ensures)
 
-said : tie.Need-returns-2
-said c =
+judged : tie.Need-returns-2
+judged c =
     let at-printing = c .before .before in
-    let at-report = at-printing .before .before in
-    let at-judgement = at-report .before .before in
+    let told = at-printing .before .before in
+    let at-judgement = told .before in
     let at-outcome = at-judgement .before .before in
     prints-as
-    (report-printed _ (at-outcome .before .parse .ensures) (at-outcome .ticket-outcome .ensures) (at-judgement .j .given .1) (at-report .report-of .ensures))
+    (report-printed _ (at-outcome .before .parse .ensures) (at-outcome .ticket-outcome .ensures) (at-judgement .j .given .1))
     (at-printing .print-report .ensures)
 
 pub printed-spec : {M : Type 1} → statement M
@@ -31,12 +31,13 @@ printed-spec =
     (λ c κs. search needs)
     (λ c κs. search needs)
     (λ c. search needs)
-    (λ c κs. search needs)
+    (λ c. search needs)
     (λ c κs. search needs)
     (λ c. search needs)
     (λ c κs. search needs)
+    (λ c. search needs)
     (λ c κs. search needs)
     (λ c. search needs)
     refused
     (λ c. search needs)
-    said)
+    judged)

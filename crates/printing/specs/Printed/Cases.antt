@@ -3,28 +3,28 @@ use Prim.Native.String.{String}
 use mathlib.Core.Path.{_≡_, refl}
 use mathlib.Core.List.{List, [], _∷_, _++_}
 use Prim.Native.Nat.{ℕ}
-use Rattle.text.specs.Ascii.{ascii}
-use Rattle.text.specs.Put.{joined}
-use Rattle.text.specs.Decimal.{shown, lastDigits, widthIn, decimalText}
 use Rattle.rounding.specs.Root.{rootOf}
 use Rattle.rounding.specs.Signed.{_÷_}
 use Rattle.reading.specs.Reading.{decimalUnits}
 use Rattle.colour.specs.Conversion.{atPlaces}
-use Rattle.colour.specs.Placed.{taken, placeLab, placeWritten}
-use Rattle.sheet.specs.Sheet.{chroma, cross, dot, sameHue, hueChange, semiAxisL, semiAxisC, weighted, weightedH, whole, hueAxis}
-use Rattle.sheet.specs.Sheet.{axesCMC, semiAxes, shift, differences, sheet, compared, comparison, verdict}
+use Rattle.colour.specs.Placed.{take, placeWritten}
+use Rattle.sheet.specs.Settings.{within}
+use Rattle.sheet.specs.Sheet.{chroma, cross, dot, sameHue, hueChange, semiAxisL, semiAxisC, component, componentH, total, hueSemiAxis}
+use Rattle.sheet.specs.Sheet.{semiAxesCMC, semiAxes, shift, differences, sheet, compared, verdictOn, comparison}
 use Rattle.names.specs.Names.{achromatic}
-use Rattle.numerals.specs.Bytes.{indexOf, before, after, startsWith, sameBytes}
-use Rattle.numerals.specs.Number.{numeral, digitsOf, fractionOf, decimalOf, signedOf}
-use Rattle.ticket.specs.Ticket.{formulaNamed, whiteNamed, spaceNamed, inSpace, readingOf, due, nothingMore}
+use Rattle.text.specs.Ascii.{ascii}
+use Rattle.text.specs.Put.{joined, line}
+use Rattle.text.specs.Decimal.{shown, lastDigits, widthIn, decimalText}
+use Rattle.text.specs.Bytes.{indexOf, before, after, startsWith, sameBytes}
+use Rattle.text.specs.Number.{numeral, digitsOf, fractionOf, decimalOf, signedOf}
+use Rattle.ticket.specs.Ticket.{named, inSpace, readingOf, due, nothingMore}
 use Rattle.ticket.specs.Ticket.{testLine, refLine, spaceLine, tolLine, cLine, factorLines, whiteLine, ticketOf}
-use Rattle.lines.specs.Lines.{numberLine, chromaticLine}
 use Rattle.report.specs.Report.{settingLines, figureLines, wordLines, reportText}
-use Rattle.standard.specs.Standard.{within}
-use Rattle.standard.specs.Refusals.{firstOf, refusal}
-use Rattle.standard.specs.Station.{judgementOf}
-use Rattle.written.specs.Ticket.{ticketFaults, ticketStandard, ticketOutcome}
-use Rattle.printing.specs.Printed.{wholeText, refusalLine, printedText}
+use Rattle.standard.specs.Refusals.{numberAt, firstOf, refusal}
+use Rattle.standard.specs.Acceptance.{rangeFaults, acceptFaults, acceptance}
+use Rattle.standard.specs.Judgement.{judgementOf, outcome}
+use Rattle.calls.specs.Outcome.{ticketOutcome}
+use Rattle.printing.specs.Printed.{refusalLine, printedText}
 
 abbrev printedFor : String → List ℕ
 printedFor s = printedText (ascii s)
@@ -52,16 +52,16 @@ pub record PrintedCases : Type 0 where
       ∷ [])
   pub empty : printedFor "" ≡ ascii "refused=7 line=1\n"
   pub third-line : from3 "l=1,000\nc=1.000\ntol=1.000\nspace=LAB\nref=50 0 0\ntest=51 0 0\n" ≡ ascii "refused=7 line=3\n"
-  pub weight : from3 "l=0.499\nc=1\ntol=1\nspace=LAB\nref=50 0 0\ntest=51 0 0\n" ≡ ascii "refused=3 line=0\n"
+  pub factor : from3 "l=0.499\nc=1\ntol=1\nspace=LAB\nref=50 0 0\ntest=51 0 0\n" ≡ ascii "refused=3 line=0\n"
   pub out-of-range : from3 "tol=1\nspace=LAB\nref=50 0 0\ntest=121 0 0\n" ≡ ascii "refused=6 line=0\n"
 
 pub printed-cases : PrintedCases
-unfolding shown lastDigits widthIn decimalText rootOf _÷_ decimalUnits atPlaces taken placeLab placeWritten
-    chroma cross dot sameHue hueChange semiAxisL semiAxisC weighted weightedH whole hueAxis
-    axesCMC semiAxes shift differences sheet compared comparison verdict achromatic
-    indexOf before after startsWith sameBytes numeral digitsOf fractionOf decimalOf signedOf
-    formulaNamed whiteNamed spaceNamed inSpace readingOf due nothingMore
+unfolding rootOf _÷_ decimalUnits atPlaces take placeWritten within
+    chroma cross dot sameHue hueChange semiAxisL semiAxisC component componentH total hueSemiAxis
+    semiAxesCMC semiAxes shift differences sheet compared verdictOn comparison achromatic
+    line shown lastDigits widthIn decimalText indexOf before after startsWith sameBytes numeral digitsOf fractionOf decimalOf signedOf
+    named inSpace readingOf due nothingMore
     testLine refLine spaceLine tolLine cLine factorLines whiteLine ticketOf
-    numberLine chromaticLine settingLines figureLines wordLines reportText
-    within firstOf refusal judgementOf ticketFaults ticketStandard ticketOutcome wholeText refusalLine printedText
-printed-cases = record { whole-case = refl; empty = refl; third-line = refl; weight = refl; out-of-range = refl }
+    settingLines figureLines wordLines reportText
+    numberAt firstOf refusal rangeFaults acceptFaults acceptance judgementOf outcome ticketOutcome refusalLine printedText
+printed-cases = record { whole-case = refl; empty = refl; third-line = refl; factor = refl; out-of-range = refl }

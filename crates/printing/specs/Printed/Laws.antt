@@ -2,63 +2,53 @@
 use mathlib.Core.Path.{_≡_, refl, sym, ap, _∙_, subst}
 use mathlib.Core.Bool.{Bool, true, false, cond}
 use mathlib.Core.Logic.{⊎-elim}
-use mathlib.Core.List.{List, _++_}
-use Prim.Native.Nat.{ℕ, _+_, _-_, _≤_, _<_, _^_}
+use mathlib.Core.List.{List}
+use Prim.Native.Nat.{ℕ, _+_, _-_, _≤_, _<_}
 use native.Mathlib.Omega.{arith}
 use native.Mathlib.Nat.{zero-add, eq-zero-or-pos}
 use borrow.Author.Tests.{le-leb, lt-leb, leb-true}
 use lib.Dec.{leb}
 use lib.ListN.{length, take, length-append, length-take}
 use lib.Seq.{take-all}
-use Rattle.text.specs.Ascii.{ascii}
 use Rattle.text.specs.Put.{putAt, Puts}
 use Rattle.text.specs.Put.Laws.{put-length}
-use Rattle.text.specs.Decimal.{lastDigits, decimalText}
-use Rattle.text.specs.Decimal.Laws.{last-digits-length, width-le}
+use Rattle.text.specs.Decimal.{wholeText}
 use Rattle.ticket.specs.Ticket.{ticketOf}
 use Rattle.ticket.specs.Ticket.Laws.{ticket-of-long}
 use Rattle.ticket.specs.declared.lines.Ticket.{Ticket}
 use Rattle.ticket.specs.declared.lines.Parsed.{Parsed}
 use Rattle.ticket.specs.declared.lines.Parsed.the-variants.{Right, Wrong}
 use Rattle.report.specs.Report.{reportText}
-use Rattle.report.specs.Write.{hasRoom, writeNumber, writeRoom, Written}
-use Rattle.report.specs.declared.report.Report.{Report}
+use Rattle.report.specs.Write.{hasRoom, Reported}
 use Rattle.standard.specs.declared.judge.Judgement.{Judgement}
 use Rattle.standard.specs.declared.judge.Outcome.{Outcome}
-use Rattle.standard.specs.declared.judge.Outcome.the-variants.{Refused, Said}
-use Rattle.written.specs.Ticket.{ticketOutcome}
-use Rattle.written.specs.Ticket.Laws.{ticket-wrong}
-use Rattle.station.specs.Calls.{reportOf}
-use Rattle.printing.specs.Printed.{wholeText, whole, refusalLine, lineOf, printedText, fits, Prints}
+use Rattle.standard.specs.declared.judge.Outcome.the-variants.{Refused, Judged}
+use Rattle.calls.specs.Outcome.{ticketOutcome}
+use Rattle.printing.specs.Printed.{refusalLine, lineOf, printedText, fits, Prints}
 
 -- ---- for a text
 
 module _ (text : List ℕ) where
-  pub printed-wrong : {line : ℕ} → ticketOf text ≡ Wrong line → printedText text ≡ refusalLine 7 line
-  unfolding printedText
-  printed-wrong {line} e = rw (e, ticket-wrong line)
-
-  pub printed-long : 4096 < length text → printedText text ≡ refusalLine 7 0
-  printed-long h = printed-wrong (sym (ticket-of-long text h))
-
-  module _ {t : Ticket} (e : ticketOf text ≡ Right t) where
-    pub printed-refused : {n : ℕ} → ticketOutcome (Right t) ≡ Refused n → printedText text ≡ refusalLine n 0
-    unfolding printedText
-    printed-refused h = rw (e, h)
-
-    pub printed-report : {j : Judgement} → ticketOutcome (Right t) ≡ Said j → printedText text ≡ reportText (reportOf j)
-    unfolding printedText
-    printed-report h = rw (e, h)
-
-  -- the same by what the code has of it
+  -- by what it is parsed as, and what that comes to
   module _ {p : Parsed} {o : Outcome} (ep : p ≡ ticketOf text) (eo : o ≡ ticketOutcome p) where
     pub refusal-printed : {number line : ℕ} → o ≡ Refused number → line ≡ lineOf p → refusalLine number line ≡ printedText text
     unfolding printedText
     refusal-printed h l = sym (rw (← ep, ← eo, h, ← l))
 
-    pub report-printed : {j : Judgement} {rep : Report} → o ≡ Said j → rep ≡ reportOf j → reportText rep ≡ printedText text
+    pub report-printed : {j : Judgement} → o ≡ Judged j → reportText j ≡ printedText text
     unfolding printedText
-    report-printed h r = sym (rw (← ep, ← eo, h, ← r))
+    report-printed h = sym (rw (← ep, ← eo, h))
+
+  -- a wrong text names its line, and a right one that is refused line 0
+  pub printed-wrong : {line : ℕ} → ticketOf text ≡ Wrong line → printedText text ≡ refusalLine 7 line
+  unfolding ticketOutcome
+  printed-wrong e = sym (refusal-printed (sym e) refl refl refl)
+
+  pub printed-refused : {t : Ticket} {n : ℕ} → ticketOf text ≡ Right t → ticketOutcome (Right t) ≡ Refused n → printedText text ≡ refusalLine n 0
+  printed-refused e h = sym (refusal-printed (sym e) refl h refl)
+
+  printed-long : 4096 < length text → printedText text ≡ refusalLine 7 0
+  printed-long h = printed-wrong (sym (ticket-of-long text h))
 
 -- 4,097 bytes of a text tell what is printed for the whole of it
 pub printed-start : (text : List ℕ) → printedText (take 4097 text) ≡ printedText text
@@ -69,18 +59,6 @@ printed-start text =
     (eq-zero-or-pos (length text - 4096))
 
 -- ---- the line of a refusal
-
-pub whole-length : (n : ℕ) → n < 10 ^ 10 → length (wholeText n) ≤ 10
-unfolding wholeText
-whole-length n h = rw last-digits-length (width-le 10 n (omega arith) h)
-
--- the decimal with no places
-pub whole-and-point : (n : ℕ) → decimalText (whole n) ≡ wholeText n ++ ascii "."
-unfolding decimalText wholeText lastDigits
-whole-and-point n = refl
-
-pub whole-and-point-length : (n : ℕ) → length (decimalText (whole n)) ≡ length (wholeText n) + 1
-whole-and-point-length n = rw (whole-and-point n) (length-append (wholeText n) _)
 
 pub refusal-length : (number line : ℕ) → length (refusalLine number line) ≡ 8 + length (wholeText number) + 6 + length (wholeText line) + 1
 unfolding refusalLine
@@ -99,7 +77,7 @@ prints-nothing before s h = record { count = rw (lt-leb _ _ h); bytes = rw (lt-l
 
 -- the slice's length stays, and the count is at most that
 module _ {before s after : List ℕ} {n : ℕ} (p : Prints before s n after) where
-  pub prints-length : length after ≡ length before
+  prints-length : length after ≡ length before
   prints-length = go (fits before s) refl (p .bytes)
     where
       go : (b : Bool) → fits before s ≡ b → after ≡ cond b (putAt before 0 s) before → length after ≡ length before
@@ -113,29 +91,27 @@ module _ {before s after : List ℕ} {n : ℕ} (p : Prints before s n after) whe
       go true h e = omega (arith, leb-true (length s) (length before) h, prints-length)
       go false h e = omega arith
 
-module _ {before after : List ℕ} {rep : Report} {number : ℕ} (w : Written before 0 rep number after) where
-  room-is-fits : hasRoom before 0 rep ≡ fits before (reportText rep)
+module _ {before after : List ℕ} {j : Judgement} {number : ℕ} (w : Reported before 0 j number after) where
+  room-is-fits : hasRoom before 0 j ≡ fits before (reportText j)
   unfolding hasRoom
-  room-is-fits = ap (λ (k : ℕ). leb k (length before)) (zero-add (length (reportText rep)))
+  room-is-fits = ap (λ (k : ℕ). leb k (length before)) (zero-add (length (reportText j)))
 
-  number-by-fits : number ≡ cond (fits before (reportText rep)) 0 10
-  unfolding writeNumber
+  number-by-fits : number ≡ cond (fits before (reportText j)) 0 10
   number-by-fits = w .number-is ∙ ap (λ (b : Bool). cond b 0 10) room-is-fits
 
-  after-by-fits : after ≡ cond (fits before (reportText rep)) (putAt before 0 (reportText rep)) before
-  unfolding writeRoom
-  after-by-fits = w .room-is ∙ ap (λ (b : Bool). cond b (putAt before 0 (reportText rep)) before) room-is-fits
+  after-by-fits : after ≡ cond (fits before (reportText j)) (putAt before 0 (reportText j)) before
+  after-by-fits = w .room-is ∙ ap (λ (b : Bool). cond b (putAt before 0 (reportText j)) before) room-is-fits
 
-  pub prints-report : {n : ℕ} → number ≡ 0 → n ≡ length (reportText rep) → Prints before (reportText rep) n after
-  prints-report z e = record { count = e ∙ go (fits before (reportText rep)) number-by-fits; bytes = after-by-fits }
+  pub prints-report : {n : ℕ} → number ≡ 0 → n ≡ length (reportText j) → Prints before (reportText j) n after
+  prints-report z e = record { count = e ∙ go (fits before (reportText j)) number-by-fits; bytes = after-by-fits }
     where
-      go : (b : Bool) → number ≡ cond b 0 10 → length (reportText rep) ≡ cond b (length (reportText rep)) 0
+      go : (b : Bool) → number ≡ cond b 0 10 → length (reportText j) ≡ cond b (length (reportText j)) 0
       go true h = refl
       go false h = absurd (omega arith)
 
-  pub prints-no-report : (number ≡ 0 → ⊥) → Prints before (reportText rep) 0 after
-  prints-no-report z = record { count = go (fits before (reportText rep)) number-by-fits; bytes = after-by-fits }
+  pub prints-no-report : (number ≡ 0 → ⊥) → Prints before (reportText j) 0 after
+  prints-no-report z = record { count = go (fits before (reportText j)) number-by-fits; bytes = after-by-fits }
     where
-      go : (b : Bool) → number ≡ cond b 0 10 → 0 ≡ cond b (length (reportText rep)) 0
+      go : (b : Bool) → number ≡ cond b 0 10 → 0 ≡ cond b (length (reportText j)) 0
       go true h = absurd (z h)
       go false h = refl

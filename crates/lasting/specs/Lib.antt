@@ -1,2 +1,0 @@
--- What `lasting` proves.
-pub mod Lasting
