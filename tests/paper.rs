@@ -569,9 +569,9 @@ pub fn verdict(n: u32, de: i128, tolerance: i128) -> Verdict {
 
 #[derive(Clone, Copy, PartialEq, Eq, Debug)]
 pub enum LightnessName {
-    Equal,
     Lighter,
     Darker,
+    Equal,
 }
 
 /// 01:53 "Lightness: lighter, darker, equal, by the sign of ΔL."
@@ -585,9 +585,9 @@ pub fn lightness_name(sheet: &Sheet) -> LightnessName {
 
 #[derive(Clone, Copy, PartialEq, Eq, Debug)]
 pub enum ChromaName {
-    Equal,
     More,
     Less,
+    Equal,
 }
 
 /// 01:53 "Chroma: more, less, equal, by the sign of ΔC": the ΔC of the sheet, which is rounded.
@@ -654,6 +654,20 @@ pub fn hue_name(reference: Colour, test: Colour) -> Option<[HueName; 2]> {
 pub fn achromatic(reference: Colour) -> bool {
     let reference = plane(reference);
     dot(reference, reference) <= 16 << 40
+}
+
+/// Lightness, chroma, hue, its bracket and the verdict as numbers: each counted from 1 in the order
+/// of its list above. Equal in hue comes after the four axes; it has no bracket, which is 0.
+pub fn words(sheet: &Sheet, tolerance: i128, reference: Colour, test: Colour) -> [u32; 5] {
+    let [hue, bracket] =
+        hue_name(reference, test).map_or([5, 0], |names| names.map(|name| 1 + name as u32));
+    [
+        1 + lightness_name(sheet) as u32,
+        1 + chroma_name(sheet) as u32,
+        hue,
+        bracket,
+        1 + verdict(PLACES, sheet.de, tolerance) as u32,
+    ]
 }
 
 // -------------------------------------------------------------------------------------------------

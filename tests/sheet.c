@@ -1,120 +1,132 @@
-/* Replays the pairs of tests/sheet.rs through the C boundary of libprobe.a and compares every figure with the paper's.
- * What is not to be written has to stay: what lies before and after the lent slice, and the slice itself on a refusal or if
- * it has another length.
+/* Replays the pairs of tests/sheet.rs, each as a load and a judgement, and compares every figure, name and refusal with the
+ * paper's. A load into the station and a report go through libshade.a, what is handed back through libprobe.a.
  *
  * Usage: sheet-answers | sheet    (sheet.rs tells what a record holds)
  *
- * Shows the first ten differences. Status 1 if there is any, or if pairs are missing.
- *
- * No headers: where the machine is no x86-64 this is compiled for x86-64, whose headers are not at hand there. */
-typedef unsigned int u32;
-typedef unsigned long u64;
-typedef long i64;
+ * Shows the first ten differences. Status 1 if there is any, or if pairs are missing. */
+#include "replay.h"
 
-int printf(const char *, ...);
-i64 read(int, void *, u64);
+char *strstr(const char *, const char *);
 
-/* A slice is a pointer and then a length. */
-u32 probe_sheet(u32 formula, u64 l, u64 c, u64 tolerance, i64 lr, i64 ar, i64 br, i64 lt, i64 at, i64 bt, i64 *out, u64 n);
-
-enum { FIGURES = 18, EDGE = 4, ROOM = EDGE + FIGURES + EDGE, BLOCK = 256, SHOWN = 10, FEWEST = 1000000 };
+enum { REFERENCE_FIGURES = 7, DELTAS = 3, FIRST_DELTA = 4, SHOWN = 10, FEWEST = 1000000 };
 
 /* A record's numbers are little-endian, as those of an x86-64 are. */
 struct record {
-    i64 formula, l, c, tolerance, reference[3], test[3], refusal, figures[FIGURES];
+    int64_t formula, l, c, tolerance;
+    int64_t load, judgement;
+    int64_t reference[REFERENCE_FIGURES], test[FIGURES], words[WORDS];
+    int64_t shift[DELTAS], achromatic;
 };
 
-static const char *const names[FIGURES] = {
-    "C of the reference", "SL", "SC", "SH", "C of the test specimen", "dL", "dC", "dH", "DL", "DC", "DH", "DE",
-    "lightness", "chroma", "hue", "bracket", "achromatic", "verdict",
-};
+static uint64_t records, pairs, differences;
 
-/* A call is lent places from this room, from EDGE on. */
-static i64 room[ROOM];
-static u64 records, pairs, differences;
+/* So many units of the grid: up to 2^53 of them exactly. */
+static double value(int64_t units) { return (double)units / 1048576; }
 
-/* What stands at a place that nobody has written. No figure is as large, and no two places hold the same. */
-static i64 guard(u64 place) { return 0x5a5a5a5a5a5a0000 + (i64)place; }
+/* L*, a* and b* are the same under every white. */
+static uint32_t white(void) { return 1 + records % 4; }
 
-/* What has to stand at a place after a call that was to write the figures, or nothing. */
-static i64 due(const struct record *r, int written, u64 place)
+static uint32_t load(uint8_t *station, uint32_t formula, const struct record *r)
 {
-    if (written && place >= EDGE && place < EDGE + FIGURES)
-        return r->figures[place - EDGE];
-    return guard(place);
+    const int64_t *p = r->reference;
+    return shade_load_lab(station, SHADE_STATION_BYTES, formula, white(), (uint32_t)r->l, (uint32_t)r->c, (uint32_t)r->tolerance,
+                          value(p[0]), value(p[1]), value(p[2]));
 }
 
-static void show(const struct record *r, u64 n, u32 number, int written)
+static struct answer judge(const uint8_t *station, const struct record *r)
 {
-    printf("differs: formula %ld, l %ld, c %ld, tolerance %ld, (%ld, %ld, %ld) to (%ld, %ld, %ld)\n", r->formula, r->l, r->c,
-           r->tolerance, r->reference[0], r->reference[1], r->reference[2], r->test[0], r->test[1], r->test[2]);
-    printf("    lent %lu, returned %u for %ld\n", n, number, r->refusal);
-    for (u64 place = 0; place < ROOM; place++) {
-        i64 wanted = due(r, written, place);
-        if (room[place] == wanted)
-            continue;
-        if (wanted == guard(place))
-            printf("    wrote %ld at place %ld\n", room[place], (i64)place - EDGE);
-        else if (room[place] == guard(place))
-            printf("    %s not written\n", names[place - EDGE]);
-        else
-            printf("    %s %ld for %ld\n", names[place - EDGE], room[place], wanted);
+    const int64_t *q = r->test;
+    return of_specimen(probe_judge_lab(station, SHADE_STATION_BYTES, value(q[0]), value(q[1]), value(q[2])));
+}
+
+/* Tells whether an answer is the one wanted, and shows it if not, unless enough have been shown. */
+static int agrees(const struct record *r, const char *call, const struct answer *got, const struct answer *wanted)
+{
+    if (answers_agree(got, wanted))
+        return 1;
+    if (differences < SHOWN) {
+        const int64_t *p = r->reference, *q = r->test;
+        printf("differs: %s, formula %ld, l %ld, c %ld, tolerance %ld, (%ld, %ld, %ld) to (%ld, %ld, %ld)\n", call, r->formula,
+               r->l, r->c, r->tolerance, p[0], p[1], p[2], q[0], q[1], q[2]);
+        show_answer(got, wanted);
     }
+    return 0;
 }
 
-/* Makes the call with a slice of length n. */
-static int agrees(const struct record *r, u64 n)
+static int number_agrees(const struct record *r, const char *call, uint32_t number, int64_t wanted)
 {
-    for (u64 place = 0; place < ROOM; place++)
-        room[place] = guard(place);
-    u32 number = probe_sheet((u32)r->formula, (u64)r->l, (u64)r->c, (u64)r->tolerance, r->reference[0], r->reference[1],
-                             r->reference[2], r->test[0], r->test[1], r->test[2], room + EDGE, n);
-    int written = r->refusal == 0 && n == FIGURES;
-    int same = number == r->refusal;
-    for (u64 place = 0; place < ROOM; place++)
-        same = same && room[place] == due(r, written, place);
-    if (!same && differences < SHOWN)
-        show(r, n, number, written);
-    return same;
+    return agrees(r, call, &(struct answer){.number = number}, &(struct answer){.number = (uint32_t)wanted});
+}
+
+static int load_agrees(const struct record *r)
+{
+    const int64_t *p = r->reference;
+    struct answer wanted = {.number = (uint32_t)r->load};
+    for (size_t at = 0; at < REFERENCE_FIGURES; at++)
+        wanted.figures[at] = r->load == 0 ? value(p[at]) : 0.0;
+    struct answer got = of_reference(probe_load_lab((uint32_t)r->formula, white(), (uint32_t)r->l, (uint32_t)r->c,
+                                                    (uint32_t)r->tolerance, value(p[0]), value(p[1]), value(p[2])));
+    return agrees(r, "load", &got, &wanted);
+}
+
+/* The judgement by what the load leaves in a station of zeros. */
+static int judgement_agrees(const struct record *r)
+{
+    uint8_t station[SHADE_STATION_BYTES] = {0};
+    struct answer wanted = {.number = (uint32_t)r->judgement};
+    for (size_t at = 0; at < FIGURES; at++)
+        wanted.figures[at] = r->judgement == 0 ? value(r->test[at]) : 0.0;
+    for (size_t at = 0; at < WORDS; at++)
+        wanted.words[at] = (uint32_t)r->words[at];
+    uint32_t number = load(station, (uint32_t)r->formula, r);
+    struct answer got = judge(station, r);
+    return number_agrees(r, "load into a station", number, r->load) && agrees(r, "judgement", &got, &wanted);
+}
+
+/* The shift of lightness, chroma and hue: DL, DC and DH under CIELAB. */
+static int shift_agrees(const struct record *r)
+{
+    uint8_t station[SHADE_STATION_BYTES] = {0};
+    load(station, SHADE_CIELAB, r);
+    struct answer got = judge(station, r), wanted = got;
+    wanted.number = 0;
+    for (size_t at = 0; at < DELTAS; at++)
+        wanted.figures[FIRST_DELTA + at] = value(r->shift[at]);
+    return agrees(r, "shift", &got, &wanted);
+}
+
+/* Under CMC a report withholds DC of an achromatic reference, and of no other. */
+static int achromatic_agrees(const struct record *r)
+{
+    const int64_t *q = r->test;
+    uint8_t station[SHADE_STATION_BYTES] = {0}, room[SHADE_REPORT_BYTES + 1] = {0};
+    load(station, SHADE_CMC, r);
+    uint32_t number = shade_judge_lab(station, SHADE_STATION_BYTES, value(q[0]), value(q[1]), value(q[2]), room,
+                                      SHADE_REPORT_BYTES, 0);
+    int withheld = strstr((const char *)room, "\nDC=withheld\n") != 0;
+    return number_agrees(r, "report", number, 0) && number_agrees(r, "achromatic", (uint32_t)withheld, r->achromatic);
 }
 
 static void compare(const struct record *r)
 {
-    /* Every eighth call is also made with another length, from none to EDGE too many in turn. It gets the same number. */
-    u64 other = records / 8 % (FIGURES + EDGE + 1);
-    if (!agrees(r, FIGURES) || (records % 8 == 0 && !agrees(r, other)))
-        differences++;
+    int good = load_agrees(r) && judgement_agrees(r);
+    /* the other formulas are asked only of a pair that is accepted */
+    if (r->judgement == 0)
+        good = good && shift_agrees(r) && achromatic_agrees(r);
+    differences += !good;
     records++;
-    pairs += r->refusal == 0;
-}
-
-/* Reads standard input until the room is full or the input ends; tells how many bytes came. A pipe gives fewer at a time. */
-static u64 fill(void *to, u64 size)
-{
-    u64 have = 0;
-    i64 more = 1;
-    while (have < size && more > 0) {
-        more = read(0, (char *)to + have, size - have);
-        have += more > 0 ? (u64)more : 0;
-    }
-    return have;
+    pairs += r->judgement == 0;
 }
 
 /* Compares all pairs. Tells whether the list is whole: the last record says how many there are, and nothing comes after it.
  * A list cut short is noticed, and so is what tests/run adds if the program that makes the list fails. */
 static int whole_list(void)
 {
-    static struct record block[BLOCK];
-    u64 bytes;
-    while ((bytes = fill(block, sizeof block)) != 0) {
-        u64 count = bytes / sizeof *block;
-        for (u64 place = 0; place < count; place++) {
-            if (block[place].formula < 0)
-                return block[place].l == (i64)records && bytes == (place + 1) * sizeof *block && fill(block, 1) == 0;
-            compare(&block[place]);
-        }
-        if (bytes != sizeof block)
-            return 0;
+    struct record r;
+    while (take(&r, sizeof r)) {
+        if (r.formula < 0)
+            return r.l == (int64_t)records && !take(&r, 1);
+        compare(&r);
     }
     return 0;
 }

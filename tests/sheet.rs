@@ -3,16 +3,17 @@
 //!
 //! Usage: sheet-answers | sheet
 //!
-//! A record is 29 numbers, each an i64, little-endian:
+//! A record is 30 numbers, each an i64, little-endian:
 //!
-//!     formula, l, c, tolerance, L a b of the reference, L a b of the test specimen, refusal,
-//!     C of the reference, SL, SC, SH, C of the test specimen, ΔL, ΔC, ΔH, DL, DC, DH, DE,
-//!     lightness (0 equal, 1 lighter, 2 darker), chroma (0 equal, 1 more, 2 less),
-//!     hue (0 equal, 1 redder, 2 yellower, 3 greener, 4 bluer), its bracket (likewise),
-//!     achromatic reference (0 no, 1 yes), verdict (0 near, 1 pass, 2 fail)
+//!     formula, l, c, tolerance, what the load answers, what the judgement after it answers,
+//!     of the reference: L, a, b, C, SL, SC, SH,
+//!     of the test specimen: L, a, b, C, DL, DC, DH, DE,
+//!     lightness, chroma, hue, its bracket, verdict (paper.rs has their numbers),
+//!     ΔL, ΔC, ΔH, achromatic reference (0 no, 1 yes)
 //!
-//! The figures of a refused pair are all 0. The last record has -1 for its formula and the number of
-//! the records before it for its l, so a list that was cut short is noticed.
+//! What is worked out is 0 where the call is refused that would tell it. The last record has -1 for
+//! its formula and the number of the records before it for its l, so a list that was cut short is
+//! noticed.
 
 use std::io::{BufWriter, StdoutLock, Write as _};
 
@@ -21,7 +22,7 @@ mod paper;
 #[path = "random.rs"]
 mod random;
 
-use paper::{Answer, Colour, Sheet, SIGN};
+use paper::{Answer, Colour, Formula, Sheet, SIGN};
 use random::Random;
 
 const PLACES: u32 = paper::PLACES;
@@ -33,7 +34,8 @@ const CIELAB: u32 = 1;
 const CIE94: u32 = 2;
 const CMC: u32 = 3;
 
-type Figures = [i64; 18];
+/// The refusal of 01:69, "Judgement with no standard loaded".
+const NO_STANDARD: u32 = 9;
 
 // -------------------------------------------------------------------------------------------------
 // The records
@@ -43,36 +45,44 @@ type Figures = [i64; 18];
 #[derive(Clone, Copy)]
 struct Terms {
     formula: u32,
-    l: u64,
-    c: u64,
-    tolerance: u64,
+    l: u32,
+    c: u32,
+    tolerance: u32,
 }
 
-/// The sheet, with the refusals in the paper's order (01:72): 1, 3 for l and then c, 4, 6 for the
-/// reference and then the test specimen.
-fn sheet(terms: Terms, reference: Colour, test: Colour) -> Answer<Sheet> {
+/// What a judgement goes by, besides the reference: l and c are still thousandths.
+type Loaded = (Formula, [i128; 2]);
+
+/// The load, with its refusals in the paper's order (01:72): 1, 3 for l and then c, 4, 6.
+fn load(terms: Terms, reference: Colour) -> Answer<Loaded> {
     let formula = paper::formula_numbered(terms.formula)?;
-    let factors = [paper::factor(terms.l)?, paper::factor(terms.c)?];
-    paper::tolerance(terms.tolerance)?;
-    let (reference, test) = (paper::on_grid(reference)?, paper::on_grid(test)?);
+    let factors = [terms.l, terms.c].map(|factor| paper::factor(factor.into()));
+    let factors = [factors[0]?, factors[1]?];
+    paper::tolerance(terms.tolerance.into())?;
+    paper::on_grid(reference)?;
+    Ok((formula, factors))
+}
+
+/// The judgement from a station of zeros that this load came to: 9, then 6.
+fn judge(loaded: Answer<Loaded>, reference: Colour, test: Colour) -> Answer<Sheet> {
+    let (formula, factors) = loaded.map_err(|_| NO_STANDARD)?;
+    let test = paper::on_grid(test)?;
     Ok(paper::sheet(PLACES, formula, factors, reference, test))
 }
 
-fn figures(sheet: &Sheet, tolerance: u64, reference: Colour, test: Colour) -> Figures {
-    let lightness = paper::lightness_name(sheet) as i128;
-    let chroma = paper::chroma_name(sheet) as i128;
-    let [hue, bracket] =
-        paper::hue_name(reference, test).map_or([0; 2], |names| names.map(|name| 1 + name as i128));
-    let verdict = paper::verdict(PLACES, sheet.de, tolerance.into()) as i128;
+/// C, SL, SC, SH.
+fn reference_figures((formula, _): Loaded, reference: Colour) -> [i128; 4] {
+    let semi_axes = paper::semi_axes(PLACES, formula, reference);
+    let c = paper::chroma(PLACES, reference);
+    [c, semi_axes.sl, semi_axes.sc, semi_axes.sh]
+}
+
+/// C, DL, DC, DH, DE, the words, ΔL, ΔC, ΔH, achromatic.
+fn test_figures(sheet: &Sheet, tolerance: u32, reference: Colour, test: Colour) -> [i128; 14] {
+    let words = paper::words(sheet, tolerance.into(), reference, test).map(i128::from);
+    let [lightness, chroma, hue, bracket, verdict] = words;
     [
-        sheet.reference_chroma,
-        sheet.semi_axes.sl,
-        sheet.semi_axes.sc,
-        sheet.semi_axes.sh,
         sheet.test_chroma,
-        sheet.delta_l,
-        sheet.delta_c,
-        sheet.delta_h,
         sheet.dl,
         sheet.dc,
         sheet.dh,
@@ -81,10 +91,12 @@ fn figures(sheet: &Sheet, tolerance: u64, reference: Colour, test: Colour) -> Fi
         chroma,
         hue,
         bracket,
-        paper::achromatic(reference).into(),
         verdict,
+        sheet.delta_l,
+        sheet.delta_c,
+        sheet.delta_h,
+        paper::achromatic(reference).into(),
     ]
-    .map(|figure| figure.try_into().expect("at 20 places an i64 holds it"))
 }
 
 struct Pairs {
@@ -102,42 +114,49 @@ impl Pairs {
         }
     }
 
-    fn record(&mut self, terms: Terms, reference: Colour, test: Colour, answer: Answer<Sheet>) {
-        let (refusal, figures) = match &answer {
-            Ok(sheet) => (0, figures(sheet, terms.tolerance, reference, test)),
-            Err(number) => (*number, [0; 18]),
-        };
-        let [formula, refusal] = [terms.formula, refusal].map(i64::from);
-        // a call takes l, c and the tolerance without a sign: the bits count
-        let [l, c, tolerance] = [terms.l, terms.c, terms.tolerance].map(|bits| bits as i64);
-        self.write(&[formula, l, c, tolerance]);
-        self.write(&reference);
-        self.write(&test);
-        self.write(&[refusal]);
-        self.write(&figures);
-        self.records += 1;
-        if let Ok(sheet) = &answer {
-            self.seen.pair(sheet, terms.tolerance, reference, test);
+    fn write_figures(&mut self, figures: &[i128]) {
+        for &figure in figures {
+            self.write(&[figure.try_into().expect("at 20 places an i64 holds it")]);
         }
     }
 
     /// The pair under these terms, refused or not.
-    fn call(&mut self, terms: Terms, reference: Colour, test: Colour) {
-        self.record(terms, reference, test, sheet(terms, reference, test));
+    fn record(&mut self, terms: Terms, reference: Colour, test: Colour) {
+        let Terms {
+            formula,
+            l,
+            c,
+            tolerance,
+        } = terms;
+        let loaded = load(terms, reference);
+        let judged = judge(loaded, reference, test);
+        let refusals = [loaded.err(), judged.err()].map(|number| number.unwrap_or(0));
+        let [of_load, of_judgement] = refusals;
+        self.write(&[formula, l, c, tolerance, of_load, of_judgement].map(i64::from));
+        self.write(&reference);
+        self.write_figures(&loaded.map_or([0; 4], |loaded| reference_figures(loaded, reference)));
+        self.write(&test);
+        self.write_figures(&judged.map_or([0; 14], |sheet| {
+            test_figures(&sheet, tolerance, reference, test)
+        }));
+        self.records += 1;
+        if let Ok(sheet) = &judged {
+            self.seen.pair(sheet, tolerance, reference, test);
+        }
     }
 
     /// The pair under this formula, l and c, with a tolerance that is mostly not far from DE. A pair
     /// that is not wholly on the grid is passed over.
-    fn put(&mut self, formula: u32, [l, c]: [u64; 2], reference: Colour, test: Colour) {
+    fn put(&mut self, formula: u32, [l, c]: [u32; 2], reference: Colour, test: Colour) {
         let mut terms = Terms {
             formula,
             l,
             c,
             tolerance: 1_000,
         };
-        if let Ok(sheet) = sheet(terms, reference, test) {
+        if let Ok(sheet) = judge(load(terms, reference), reference, test) {
             terms.tolerance = self.random.tolerance_near(sheet.de);
-            self.record(terms, reference, test, Ok(sheet));
+            self.record(terms, reference, test);
         }
     }
 
@@ -158,7 +177,7 @@ impl Pairs {
 
     fn end(mut self) {
         self.seen.check();
-        let mut trailer = [0; 29];
+        let mut trailer = [0; 30];
         trailer[..2].copy_from_slice(&[-1, self.records]);
         self.write(&trailer);
         self.out.flush().expect("the reader takes it all");
@@ -171,7 +190,7 @@ impl Pairs {
 struct Seen(Vec<(&'static str, u64)>);
 
 impl Seen {
-    fn pair(&mut self, sheet: &Sheet, tolerance: u64, reference: Colour, test: Colour) {
+    fn pair(&mut self, sheet: &Sheet, tolerance: u32, reference: Colour, test: Colour) {
         let [l, a, b] = reference;
         let square = |[_, a, b]: Colour| a * a + b * b;
         let (squares, c) = ([reference, test].map(square), sheet.reference_chroma);
@@ -288,8 +307,8 @@ impl Random {
         }
     }
 
-    fn factor(&mut self) -> u64 {
-        let any = 500 + self.below(9_501);
+    fn factor(&mut self) -> u32 {
+        let any = 500 + self.below(9_501) as u32;
         let set = [
             500, 501, 999, 1_000, 1_000, 1_000, 1_001, 2_000, 2_000, 9_999, 10_000, any, any,
         ];
@@ -297,12 +316,12 @@ impl Random {
     }
 
     /// Mostly within a few thousandths of DE, where it is decided whether DE is near.
-    fn tolerance_near(&mut self, de: i128) -> u64 {
+    fn tolerance_near(&mut self, de: i128) -> u32 {
         if self.below(4) == 0 {
-            return 100 + self.below(9_901);
+            return 100 + self.below(9_901) as u32;
         }
         let thousandths = (de as i64 * 1_000) >> 20;
-        (thousandths + self.within(4)).clamp(100, 10_000) as u64
+        (thousandths + self.within(4)).clamp(100, 10_000) as u32
     }
 }
 
@@ -537,9 +556,9 @@ fn mixtures(lightness: &[i64], opponent: &[i64]) -> Vec<Colour> {
 fn tolerance_ends(pairs: &mut Pairs) {
     for step in 0..60_000 {
         let end = if step % 2 == 0 {
-            125 * (1 + pairs.random.below(80))
+            125 * (1 + pairs.random.below(80) as u32)
         } else {
-            98 + pairs.random.below(9_905)
+            98 + pairs.random.below(9_905) as u32
         };
         let terms = Terms {
             formula: pairs.random.pick(&[CIELAB, CIE94, CMC]),
@@ -549,7 +568,7 @@ fn tolerance_ends(pairs: &mut Pairs) {
         };
         let reference = pairs.random.colour();
         // the least ΔL that makes DL as much as is wanted: the end, or a unit more or less
-        let wanted = (end as i64 * ONE / 1_000 + pairs.random.within(1)) as i128;
+        let wanted = (i64::from(end) * ONE / 1_000 + pairs.random.within(1)) as i128;
         let formula = paper::formula_numbered(terms.formula).expect("one of the three");
         let sl = paper::semi_axes(PLACES, formula, reference).sl;
         let l = match formula {
@@ -561,7 +580,7 @@ fn tolerance_ends(pairs: &mut Pairs) {
         for delta_l in [delta_l, -delta_l] {
             let test = [reference[0] + delta_l, reference[1], reference[2]];
             if paper::on_grid(test).is_ok() {
-                pairs.call(terms, reference, test);
+                pairs.record(terms, reference, test);
             }
         }
     }
@@ -571,10 +590,10 @@ fn tolerance_ends(pairs: &mut Pairs) {
 /// the refused ones come into the range when their upper bits are lost.
 fn refusals(pairs: &mut Pairs) {
     let outside = |least| {
-        let beyond = [(1 << 16) + 1_000, (1 << 32) + 1_000, SIGN + 1_000];
-        [&[0, 1, least - 1, 10_001, u64::MAX], &beyond[..]].concat()
+        let beyond = [(1 << 16) + 1_000, (1 << 24) + 1_000, (1 << 31) + 1_000];
+        [&[0, 1, least - 1, 10_001, u32::MAX], &beyond[..]].concat()
     };
-    let (factors, tolerances) = (outside(500_u64), outside(100));
+    let (factors, tolerances) = (outside(500_u32), outside(100));
     let ends = mixtures(&[0, LIGHTEST], &[-SIDE, 0, SIDE]);
     for wrong in 0_u32..64 {
         let is_wrong = |place: u32| wrong >> place & 1 == 1;
@@ -607,7 +626,7 @@ fn refusals(pairs: &mut Pairs) {
                     colour
                 }
             });
-            pairs.call(terms, reference, test);
+            pairs.record(terms, reference, test);
         }
     }
 }

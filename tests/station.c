@@ -1,12 +1,12 @@
-/* Replays the runs of tests/station.rs through libshade.a and compares every answer with the paper's: the number, what the two
- * stations hold, and every byte of the room. No call may touch a byte outside its slices (fence.h).
+/* Replays the runs of tests/station.rs and compares every answer with the paper's. Through libshade.a: the number, what the two
+ * stations hold, and every byte of the room. Through libprobe.a: the figures, names and verdict that the same call hands back. No
+ * call may touch a byte outside its slices (fence.h).
  *
  * Usage: station-answers | station    (station.rs tells what a record holds)
  *
  * Shows the first ten differences. Status 1 if there is any, or if calls are missing. */
 #include "fence.h"
-
-long read(int, void *, size_t);
+#include "replay.h"
 
 enum { START, LOAD_XYZ, LOAD_LAB, JUDGE_XYZ, JUDGE_LAB, TICKET, END };
 enum { STATIONS = 2, SHOWN = 10, FEWEST = 2000000 };
@@ -17,6 +17,7 @@ struct record {
     uint32_t formula, white, l, c, tolerance, zero;
     double reading[3];
     uint8_t after[STATIONS][SHADE_STATION_BYTES];
+    struct answer handed;
 };
 
 static const char *const kinds[] = {"start", "load X, Y, Z", "load L*, a*, b*", "judge X, Y, Z", "judge L*, a*, b*", "ticket"};
@@ -26,27 +27,6 @@ static struct lent stations[STATIONS], lents[3];
 static struct lent *const other = &lents[0], *const room = &lents[1], *const text = &lents[2];
 static uint8_t report[PATTERN];
 static uint64_t runs, differences;
-
-/* Standard input, a block at a time. Tells whether so many bytes came. */
-static int take(void *to, size_t size)
-{
-    static uint8_t block[1 << 16];
-    static size_t have, used;
-    for (size_t taken = 0; taken < size;) {
-        if (used == have) {
-            long more = read(0, block, sizeof block);
-            if (more <= 0)
-                return 0;
-            have = (size_t)more;
-            used = 0;
-        }
-        size_t part = have - used < size - taken ? have - used : size - taken;
-        memcpy((uint8_t *)to + taken, block + used, part);
-        used += part;
-        taken += part;
-    }
-    return 1;
-}
 
 /* The host writes both stations, each against the fence whose turn it is. */
 static void start(const struct record *r)
@@ -69,9 +49,8 @@ static struct lent *station_of(const struct record *r)
     return other;
 }
 
-static uint32_t call(const struct record *r)
+static uint32_t call(const struct record *r, const struct lent *station)
 {
-    struct lent *station = station_of(r);
     uint8_t *bytes = pointer(station, calls & 2), *to = pointer(room, calls & 4), *from = pointer(text, calls & 8);
     const double *v = r->reading;
     switch (r->kind) {
@@ -85,6 +64,25 @@ static uint32_t call(const struct record *r)
         return shade_judge_lab(bytes, station->length, v[0], v[1], v[2], to, room->length, r->column);
     default:
         return shade_ticket(from, text->length, to, room->length, r->column);
+    }
+}
+
+/* What the same call hands back. */
+static struct answer hand_back(const struct record *r, const struct lent *station)
+{
+    const uint8_t *bytes = pointer(station, calls & 2), *from = pointer(text, calls & 8);
+    const double *v = r->reading;
+    switch (r->kind) {
+    case LOAD_XYZ:
+        return of_reference(probe_load_xyz(r->formula, r->white, r->l, r->c, r->tolerance, v[0], v[1], v[2]));
+    case LOAD_LAB:
+        return of_reference(probe_load_lab(r->formula, r->white, r->l, r->c, r->tolerance, v[0], v[1], v[2]));
+    case JUDGE_XYZ:
+        return of_specimen(probe_judge_xyz(bytes, station->length, v[0], v[1], v[2]));
+    case JUDGE_LAB:
+        return of_specimen(probe_judge_lab(bytes, station->length, v[0], v[1], v[2]));
+    default:
+        return of_specimen(probe_ticket(from, text->length));
     }
 }
 
@@ -114,12 +112,15 @@ static void compare(const struct record *r, const uint8_t *words)
 {
     memcpy(lend(room, r->room_len, calls & 16), pattern, r->room_len);
     memcpy(lend(text, r->text_len, calls & 32), words, r->text_len);
+    struct lent *slice = station_of(r);
     stir_stack();
-    uint32_t number = call(r);
+    uint32_t number = call(r, slice);
+    stir_stack();
+    struct answer handed = hand_back(r, slice);
     int station = stations_agree(r), page = room_agrees(r);
     int kept = memcmp(text->slice, words, text->length) == 0 && guards_stand(text);
     calls++;
-    if (number == r->number && station && page && kept)
+    if (number == r->number && station && page && kept && answers_agree(&handed, &r->handed))
         return;
     if (differences++ >= SHOWN)
         return;
@@ -130,6 +131,7 @@ static void compare(const struct record *r, const uint8_t *words)
     if (r->kind != TICKET)
         printf("    %u %u %u %u %u, (%.17g, %.17g, %.17g)\n", r->formula, r->white, r->l, r->c, r->tolerance, r->reading[0],
                r->reading[1], r->reading[2]);
+    show_answer(&handed, &r->handed);
 }
 
 /* A record that this program can follow. */

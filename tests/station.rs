@@ -3,7 +3,7 @@
 //!
 //! Usage: station-answers | station
 //!
-//! A run has two stations, and a call takes one of them or none. A record is 152 bytes, then the
+//! A run has two stations, and a call takes one of them or none. A record is 240 bytes, then the
 //! text of a ticket, then the report. Every number is little-endian:
 //!
 //!     kind (0 a run starts, 1 load X Y Z, 2 load L a b, 3 judge X Y Z, 4 judge L a b, 5 ticket,
@@ -12,6 +12,7 @@
 //!     formula, white, l, c, tolerance, 0: 4 bytes each
 //!     the three readings: 8 bytes each
 //!     what each station holds after the call, or where a run starts: 20 bytes each
+//!     what the call hands back, its room and a load's slice apart (handed.rs): 88 bytes
 //!
 //! The last record has the number of calls for its refusal and the number of runs for its station,
 //! so a list that was cut short is noticed.
@@ -19,6 +20,8 @@
 use std::collections::BTreeMap;
 use std::io::{BufWriter, StdoutLock, Write as _};
 
+#[path = "handed.rs"]
+mod handed;
 #[path = "paper.rs"]
 mod paper;
 #[path = "random.rs"]
@@ -26,6 +29,7 @@ mod random;
 #[path = "text.rs"]
 mod text;
 
+use handed::Handed;
 use paper::{Answer, Colour, Quantity, SIGN};
 use random::Random;
 use text::{Space, Standard};
@@ -183,10 +187,14 @@ fn judge_faults(standard: Option<Standard>, reading: &Reading) -> Vec<u32> {
     faults
 }
 
-fn judged(standard: Option<Standard>, reading: &Reading) -> Answer<Vec<u8>> {
+/// The report, and what is handed back.
+type Judged = (Vec<u8>, Handed);
+
+fn judged(standard: Option<Standard>, reading: &Reading) -> Answer<Judged> {
     let standard = standard.ok_or(NO_STANDARD)?;
     let test = reading.place(standard.white)?;
-    Ok(text::report(&standard, test))
+    let handed = Handed::of_judgement(&standard, test);
+    Ok((text::report(&standard, test), handed))
 }
 
 /// All refusals of a ticket that apply without regard to the room.
@@ -260,6 +268,7 @@ struct Record<'a> {
     report: &'a [u8],
     terms: [u32; 5],
     bits: [u64; 3],
+    handed: Handed,
 }
 
 impl Host {
@@ -282,6 +291,7 @@ impl Host {
         for station in &self.stations {
             bytes.extend(station.slice);
         }
+        bytes.extend(record.handed.bytes());
         bytes.extend(record.words);
         bytes.extend(record.report);
         self.out.write_all(&bytes).expect("the reader takes it all");
@@ -308,6 +318,11 @@ impl Host {
             self.stations[at].slice = encode(&load.standard());
             self.stations[at].last = LastLoad::Accepted(load);
         }
+        // the length of a slice does not matter to what is handed back
+        let handed = match load.faults(STATION).first() {
+            Some(&number) => Handed::refused(number),
+            None => Handed::of_load(&load.standard()),
+        };
         let kind = load.reference.space as usize;
         self.seen.call(kind, &faults, b"");
         self.calls += 1;
@@ -318,6 +333,7 @@ impl Host {
             station_length: length,
             terms: [load.formula, load.white, load.l, load.c, load.tolerance],
             bits: load.reference.bits,
+            handed,
             ..Record::default()
         });
     }
@@ -348,7 +364,8 @@ impl Host {
     }
 
     fn ticket(&mut self, words: &[u8]) {
-        let answer = text::judge_ticket(words).map_err(|(number, _)| number);
+        let report = text::judge_ticket(words).map_err(|(number, _)| number);
+        let answer = report.and_then(|report| Ok((report, Handed::of_ticket(words)?)));
         let record = Record {
             station_length: STATION,
             words,
@@ -362,20 +379,22 @@ impl Host {
         &mut self,
         kind: usize,
         record: Record,
-        answer: Answer<Vec<u8>>,
+        answer: Answer<Judged>,
         mut faults: Vec<u32>,
         room: Option<Room>,
     ) {
         let first = faults.first().copied();
         assert_eq!(answer.as_ref().err().copied(), first, "{faults:?}");
-        let needed = answer.as_ref().map_or(0, Vec::len);
+        let (report, handed) =
+            answer.unwrap_or_else(|number| (Vec::new(), Handed::refused(number)));
+        let needed = report.len();
         let room = room.unwrap_or_else(|| self.random.room(needed));
         // a call that has no report to write has no room for one if it has none at all
         if room.left() < needed.max(1) {
             faults.push(WRONG_LENGTH);
         }
         let report = if faults.is_empty() {
-            answer.expect("not refused")
+            report
         } else {
             Vec::new()
         };
@@ -386,6 +405,7 @@ impl Host {
             refusal: faults.first().copied().unwrap_or(0).into(),
             room: [room.length, room.column],
             report: &report,
+            handed,
             ..record
         });
     }

@@ -5,8 +5,8 @@
 //!
 //! A record, its numbers little-endian:
 //!
-//!     u32  length of the text, length of what is printed, refusal number, number of calls
-//!     u8   the text, then what is printed
+//!     u32  length of the text, length of what is printed, number of calls, 0
+//!     u8   what is handed back (handed.rs), 88 of them; the text; what is printed
 //!     u64  for each call: length of the lent room, column, number that the call answers
 //!
 //! The last record has u32::MAX for the length of its text and the number of the records before it
@@ -16,6 +16,8 @@
 use std::collections::BTreeMap;
 use std::io::{BufWriter, StdoutLock, Write as _};
 
+#[path = "handed.rs"]
+mod handed;
 #[path = "paper.rs"]
 mod paper;
 #[path = "random.rs"]
@@ -23,6 +25,7 @@ mod random;
 #[path = "text.rs"]
 mod text;
 
+use handed::Handed;
 use paper::{Answer, Colour, Formula};
 use random::Random;
 use text::{Decimal, Space, Standard, Ticket, FORMULAS, SPACES, WHITES};
@@ -53,10 +56,11 @@ impl Tickets {
         self.out.write_all(bytes).expect("the reader takes it all");
     }
 
-    fn header(&mut self, numbers: [u32; 4]) {
-        for number in numbers {
+    fn header(&mut self, numbers: [u32; 3], handed: Handed) {
+        for number in numbers.into_iter().chain([0]) {
             self.write(&number.to_le_bytes());
         }
+        self.write(&handed.bytes());
     }
 
     /// A text with its answer and some calls.
@@ -65,12 +69,9 @@ impl Tickets {
         let printed = text::shown(&judged);
         let judged = judged.map_err(|(number, _)| number);
         let calls = self.random.calls(&judged);
-        let number = match &judged {
-            Ok(_) => 0,
-            Err(number) => *number,
-        };
-        let lengths = [text.len() as u32, printed.len() as u32];
-        self.header([lengths[0], lengths[1], number, calls.len() as u32]);
+        let handed = Handed::of_ticket(text).unwrap_or_else(Handed::refused);
+        let lengths = [text.len(), printed.len(), calls.len()];
+        self.header(lengths.map(|length| length as u32), handed);
         self.write(text);
         self.write(&printed);
         for [length, column] in calls {
@@ -91,7 +92,7 @@ impl Tickets {
 
     fn end(mut self) {
         self.seen.check();
-        self.header([u32::MAX, self.records, 0, 0]);
+        self.header([u32::MAX, self.records, 0], Handed::default());
         self.out.flush().expect("the reader takes it all");
         self.seen.tell();
     }

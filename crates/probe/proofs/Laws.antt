@@ -13,7 +13,7 @@ use Rattle.colour.specs.declared.placed.Reading.{Reading}
 use Rattle.colour.specs.declared.white.Numbered.{Numbered}
 use Rattle.colour.specs.declared.white.Numbered.the-variants.{Is, Unknown}
 use Rattle.colour.specs.declared.white.White.{White}
-use Rattle.probe.specs.Probe.{Answer, answer, unitsAnswer, placedAnswer, numberedAnswer}
+use Rattle.probe.specs.Ground.{Answer, answer, unitsAnswer, placedAnswer, numberedAnswer}
 
 -- nothing is stored in an empty list
 pub set-none : (l : List ℤ) (v : ℤ) → length l ≤ 0 → set l 0 v ≡ l

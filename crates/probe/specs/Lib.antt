@@ -1,2 +1,5 @@
--- What the contracts of `probe` cite: one number, or one colour.
-pub mod Probe
+-- What the contracts of `probe` cite.
+-- one number, or one colour
+pub mod Ground
+-- what load, judge and ticket hand back
+pub mod Answers

@@ -1,2 +1,0 @@
--- What the contract of `probe_sheet` cites: a row of the sheet.
-pub mod Rows
