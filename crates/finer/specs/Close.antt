@@ -1,6 +1,6 @@
--- Sections 3 and 4 of the argument, what they come to: of two loose sheets s and t of the same colours, no semi-axis of s is above that of t by
--- more than a ten-thousandth, and SC is at most four times SH. The core goes by this alone, so it serves the three formulas; and as s and t are
--- any two, it serves both directions. Assumes nothing.
+-- Sections 3 and 4 of the argument, what they come to: of two loose sheets s and t of the same colours, no semi-axis
+-- of s is above that of t by more than a ten-thousandth, and SC is at most four times SH. The core goes by this
+-- alone, so it serves the three formulas; and as s and t are any two, it serves both directions. Assumes nothing.
 use Prim.Native.Nat.{_*_, _≤_}
 use Rattle.finer.specs.Loose.{Quantities}
 pub mod Chroma

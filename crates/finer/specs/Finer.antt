@@ -1,12 +1,14 @@
--- 01-scope.md, demand 3: no finer sheet changes a verdict. For each formula, any two colours of the grid, l and c from 0.5 to 10, a tolerance from
--- 0.1 to 10 and every n from 20 up; of `sheet` and `verdict`, which the contracts of `sheet` cite.
+-- docs/SCOPE.md 2.3: no finer sheet changes a verdict. For each formula, any two colours of the grid, l and c
+-- from 0.5 to 10, a tolerance from 0.1 to 10 and every n from 20 up; of `sheet` and `verdict`, which the contracts of
+-- `sheet` cite.
 --
--- DE20 is the DE that the station works out, in units of 2 ^ -20. DEn is the DE of the same sheet, for the same colours, carried to n binary places:
--- in units of 2 ^ -n, of which 2 ^ (n - 20) make one of ours. l, c and the tolerance count thousandths. So in thousandths of a unit of 2 ^ -n
--- DE is 1000 * DEn, the tolerance is tolerance * 2 ^ n, and 0.002 is 2 * 2 ^ n.
+-- DE20 is the DE that the station works out, in units of 2 ^ -20. DEn is the DE of the same sheet, for the same
+-- colours, carried to n binary places: in units of 2 ^ -n, of which 2 ^ (n - 20) make one of ours. l, c and the
+-- tolerance count thousandths. So in thousandths of a unit of 2 ^ -n DE is 1000 * DEn, the tolerance is
+-- tolerance * 2 ^ n, and 0.002 is 2 * 2 ^ n.
 --
--- `Lib.antt` lists the argument's sections. `Finer/Reached.antt` has the bound that it reaches, `Finer/Sharp.antt` why these limits stand here.
--- Assumes nothing.
+-- `Lib.antt` lists the argument's sections. `Finer/Reached.antt` has the bound that it reaches, `Finer/Sharp.antt`
+-- why these limits stand here. Assumes nothing.
 use mathlib.Core.Path.{_≡_}
 use Prim.Native.Nat.{ℕ, _+_, _-_, _*_, _^_, _≤_, _<_}
 use native.Mathlib.Omega.{arith}
@@ -58,6 +60,8 @@ no-finer-sheet-changes-a-verdict f {l} {c} {tolerance} {R} {T} range accepted n 
       passes = λ e. rw unit (pass-kept K x y some moves tolerance (accepted .high) (below-of-pass 20 tolerance x e));
       fails = λ e. rw unit (fail-kept K x y some moves tolerance (accepted .high) (above-of-fail 20 tolerance x e));
       near-within = λ e. let (low, high) = within-of-near 20 tolerance x e in apart-le high low;
-      within-near = λ h. compared-near 20 (tolerance * 2 ^ 20) (1000 * x) (omega (arith, abs-change (tolerance * 2 ^ 20) (1000 * x)));
+      within-near =
+          λ h. compared-near 20 (tolerance * 2 ^ 20) (1000 * x)
+          (omega (arith, abs-change (tolerance * 2 ^ 20) (1000 * x)));
       unmoved = λ small. rw unit (moved-lt K x y some moves small);
     }

@@ -1,13 +1,15 @@
--- Section 2 of the argument, what a loose sheet is: numbers that satisfy each line of the sheet to within K, N being 1 in their unit, and that
--- have the sizes which the sheet is known to have (`1≤2SC`: SC is at least 1/2). The sheet at n places is one (`Loose/AtPlaces.antt`), and K
--- times the sheet at 20 places is one of the same colours (`Loose/AtTwenty.antt`): what follows then speaks of any two. Assumes nothing.
+-- Section 2 of the argument, what a loose sheet is: numbers that satisfy each line of the sheet to within K, N being
+-- 1 in their unit, and that have the sizes which the sheet is known to have (`1≤2SC`: SC is at least 1/2). The sheet
+-- at n places is one (`Loose/AtPlaces.antt`), and K times the sheet at 20 places is one of the same colours
+-- (`Loose/AtTwenty.antt`): what follows then speaks of any two. Assumes nothing.
 use mathlib.Core.Path.{_≡_}
 use mathlib.Core.Bool.{Bool, true, false}
 use mathlib.Core.Logic.{_⊎_}
 use Prim.Native.Nat.{ℕ, _+_, _-_, _*_, _≤_, _<_}
+use Rattle.rounding.specs.Fraction.{LooseFraction}
+use Rattle.rounding.specs.Root.{LooseRoot}
 use Rattle.sheet.specs.declared.formula.Formula.{Formula}
 use Rattle.sheet.specs.declared.formula.Formula.the-variants.{CIELAB, CIE94, CMC}
-use Rattle.finer.specs.Rounded.{LooseFraction, LooseRoot}
 pub mod Sheets
 pub mod Lines
 pub mod Times
@@ -21,8 +23,8 @@ unit K = 1048576 * K
 abbrev pub coarse : ℕ → ℕ
 coarse K = 8192 * K
 
--- what the sheet looks at of its two colours, in exact numbers: a² + b² of either, D², |ΔL|, L and line 6's M of the reference, whether the hue
--- is the same and which form T has; and l and c as they count
+-- what the sheet looks at of its two colours, in exact numbers: a² + b² of either, D², |ΔL|, L and line 6's M of the
+-- reference, whether the hue is the same and which form T has; and l and c as they count
 pub record Data : Type 0 where
   pub formula : Formula
   pub l : ℕ
@@ -70,30 +72,32 @@ slope true = 2
 -- lines 5 to 7 of a reference that is not neutral
 pub record LooseHue (K N : ℕ) (d : Data) (s : Quantities) : Type 0 where
   pub K≤C : K ≤ s .CR
-  pub Q : LooseFraction K (s .Q) (128 * N) (d .squareR)
-  pub W : LooseRoot K (s .W) (s .Q * s .Q + 1900 * (coarse K * coarse K))
+  pub Q : LooseFraction K (d .squareR) (128 * N) (s .Q)
+  pub W : LooseRoot 2 K (s .Q * s .Q + 1900 * (coarse K * coarse K)) (s .W)
   pub Q≤W : s .Q ≤ s .W
   pub 43≤W : 43 * coarse K ≤ s .W
-  pub F : LooseFraction K (s .F) (s .W) (s .Q * N)
+  pub F : LooseFraction K (s .Q * N) (s .W) (s .F)
   pub F≤1 : s .F ≤ N
-  pub T : LooseFraction K (s .T) (1000000000 * s .CR) ((constant (d .second) * s .CR + slope (d .second) * d .M) * N)
+  pub T : LooseFraction K ((constant (d .second) * s .CR + slope (d .second) * d .M) * N) (1000000000 * s .CR) (s .T)
   pub T≤1 : s .T ≤ N
-  pub P : LooseFraction K (s .P) N (s .F * s .T)
+  pub P : LooseFraction K (s .F * s .T) N (s .P)
   pub G : s .G + s .F ≡ s .P + N
   pub 1≤3G : N ≤ 3 * s .G
-  pub SH : LooseFraction K (s .SH) N (s .SC * s .G)
+  pub SH : LooseFraction K (s .SC * s .G) N (s .SH)
 
 pub record LooseCMC (K N : ℕ) (d : Data) (s : Quantities) : Type 0 where
-  pub dark : d .L < 16 * N → LooseFraction K (s .SL) 1000 (511 * N)
-  pub light : 16 * N ≤ d .L → LooseFraction K (s .SL) (1000000 * N + 17650 * d .L) (40975 * d .L * N)
-  pub SC : LooseFraction K (s .SC) ((10000 * N + 131 * s .CR) * 1000) ((638 * s .CR * 1000 + (10000 * N + 131 * s .CR) * 638) * N)
+  pub dark : d .L < 16 * N → LooseFraction K (511 * N) 1000 (s .SL)
+  pub light : 16 * N ≤ d .L → LooseFraction K (40975 * d .L * N) (1000000 * N + 17650 * d .L) (s .SL)
+  pub SC :
+      LooseFraction K ((638 * s .CR * 1000 + (10000 * N + 131 * s .CR) * 638) * N) ((10000 * N + 131 * s .CR) * 1000)
+      (s .SC)
   pub neutral : d .squareR ≡ 0 → s .SH ≡ s .SC
   pub chromatic : 0 < d .squareR → LooseHue K N d s
 
 pub record LooseCIE94 (K N : ℕ) (s : Quantities) : Type 0 where
   pub SL : s .SL ≡ N
-  pub SC : LooseFraction K (s .SC) 1000 (1000 * N + 45 * s .CR)
-  pub SH : LooseFraction K (s .SH) 1000 (1000 * N + 15 * s .CR)
+  pub SC : LooseFraction K (1000 * N + 45 * s .CR) 1000 (s .SC)
+  pub SH : LooseFraction K (1000 * N + 15 * s .CR) 1000 (s .SH)
 
 pub record LooseCIELAB (N : ℕ) (s : Quantities) : Type 0 where
   pub SL : s .SL ≡ N
@@ -109,20 +113,20 @@ LooseSemiAxes CMC K N d s = LooseCMC K N d s
 
 pub record LooseDifferences (K N : ℕ) (d : Data) (s : Quantities) : Type 0 where
   pub same : d .sameHue ≡ true → s .ΔH ≡ 0
-  pub ΔH : d .sameHue ≡ false → LooseRoot K (s .ΔH) (d .D² - s .ΔC * s .ΔC)
+  pub ΔH : d .sameHue ≡ false → LooseRoot 2 K (d .D² - s .ΔC * s .ΔC) (s .ΔH)
   pub 1≤2SL : N ≤ 2 * s .SL
   pub 1≤2SC : N ≤ 2 * s .SC
   pub 1≤7SH : N ≤ 7 * s .SH
-  pub DL : LooseFraction K (s .DL) (d .l * s .SL) (1000 * N * d .ΔL)
-  pub DC : LooseFraction K (s .DC) (d .c * s .SC) (1000 * N * s .ΔC)
-  pub DH : LooseFraction K (s .DH) (s .SH) (N * s .ΔH)
-  pub DE : LooseRoot K (s .DE) (s .DL * s .DL + s .DC * s .DC + s .DH * s .DH)
+  pub DL : LooseFraction K (1000 * N * d .ΔL) (d .l * s .SL) (s .DL)
+  pub DC : LooseFraction K (1000 * N * s .ΔC) (d .c * s .SC) (s .DC)
+  pub DH : LooseFraction K (N * s .ΔH) (s .SH) (s .DH)
+  pub DE : LooseRoot 2 K (s .DL * s .DL + s .DC * s .DC + s .DH * s .DH) (s .DE)
 
 -- ---- the whole
 
 pub record Loose (K N : ℕ) (d : Data) (s : Quantities) : Type 0 where
-  pub CR : LooseRoot K (s .CR) (d .squareR)
-  pub CT : LooseRoot K (s .CT) (d .squareT)
+  pub CR : LooseRoot 2 K (d .squareR) (s .CR)
+  pub CT : LooseRoot 2 K (d .squareT) (s .CT)
   pub ΔC : (s .ΔC + s .CR ≡ s .CT) ⊎ (s .ΔC + s .CT ≡ s .CR)
   pub semi-axes : LooseSemiAxes (d .formula) K N d s
   pub differences : LooseDifferences K N d s

@@ -1,5 +1,6 @@
--- Section 6 of the argument: the core, used in both directions on the sheet at n places and K times the sheet at 20, says how far DE can move; and
--- what that means for a verdict, over plain numbers: x is DE at 20 places, y at n, in a unit of which K make one of x's. Assumes nothing.
+-- Section 6 of the argument: the core, used in both directions on the sheet at n places and K times the sheet at 20,
+-- says how far DE can move; and what that means for a verdict, over plain numbers: x is DE at 20 places, y at n, in a
+-- unit of which K make one of x's. Assumes nothing.
 use Prim.Native.Nat.{ℕ, _+_, _-_, _*_, _^_, _≤_, _<_}
 use native.Mathlib.Nat.{mul-le-mul-right}
 use native.Mathlib.Omega.{arith}
@@ -24,7 +25,8 @@ pub record Moves (K x y : ℕ) : Type 0 where
 
 loose-DE-le :
     {K : ℕ} {d : Data} {s t : Quantities} →
-    0 < K → Factor (d .l) → Factor (d .c) → Loose K (unit K) d s → Loose K (unit K) d t → 10000 * t .DE ≤ 10001 * (s .DE + 579 * K)
+    0 < K → Factor (d .l) → Factor (d .c) → Loose K (unit K) d s → Loose K (unit K) d t →
+    10000 * t .DE ≤ 10001 * (s .DE + 579 * K)
 loose-DE-le some hl hc h g =
     DE-le some hl hc (h .differences) (g .differences) (loose-close some h g) (loose-ΔC-le h g) (loose-ΔC-le g h)
 
@@ -47,7 +49,8 @@ DE-moves n from20 f {l} {c} hl hc R T =
 
 module _ (K x y : ℕ) (some : 0 < K) (moves : Moves K x y) where
   -- 1627.6339 = (10 · 2 ^ 20 + 10001 · 579) / 10000
-  pub moves-le : x ≤ 10 * 2 ^ 20 → (10000 * y ≤ 10000 * (K * x) + 16276339 * K) × (10000 * (K * x) ≤ 10000 * y + 16276339 * K)
+  pub moves-le :
+      x ≤ 10 * 2 ^ 20 → (10000 * y ≤ 10000 * (K * x) + 16276339 * K) × (10000 * (K * x) ≤ 10000 * y + 16276339 * K)
   moves-le small = let most = mul-le-mul-right K small in omega arith
 
   -- 0.002 is 2097.152 units of 2 ^ -20

@@ -1,5 +1,6 @@
--- The bound that the argument reaches. 0.002 is 2097.152 units of 2 ^ -20, and 2 ^ (n - 20) units of 2 ^ -n make one of these. Whatever our DE is,
--- DE at n places is within a ten-thousandth of it and 579.0579 units; so within 1628 units where it is at most 10. Assumes nothing.
+-- The bound that the argument reaches. 0.002 is 2097.152 units of 2 ^ -20, and 2 ^ (n - 20) units of 2 ^ -n make one
+-- of these. Whatever our DE is, DE at n places is within a ten-thousandth of it and 579.0579 units; so within 1628
+-- units where it is at most 10. Assumes nothing.
 use Prim.Native.Nat.{ℕ, _+_, _-_, _*_, _^_, _≤_, _<_}
 use native.Mathlib.Omega.{arith}
 use lib.Pow.{pow-pos}

@@ -1,5 +1,5 @@
--- Section 2.2: the sheet at n places, n from 20 up, is a loose sheet. Every line is rounded down once, by less than one unit, and one unit is at
--- most K; the sizes are laws of the sheet. Assumes nothing.
+-- Section 2.2: the sheet at n places, n from 20 up, is a loose sheet. Every line is rounded down once, by less than
+-- one unit, and one unit is at most K; the sizes are laws of the sheet. Assumes nothing.
 use mathlib.Core.Path.{_≡_, refl}
 use mathlib.Core.Bool.{Bool, true}
 use mathlib.Core.Logic.{_⊎_, inl, inr}
@@ -9,23 +9,24 @@ use native.Mathlib.Decide.{decLe}
 use native.Mathlib.Omega.{arith}
 use lib.IntN.{ℤ}
 use lib.Pow.{pow-pos, pow-mono}
-use Rattle.rounding.specs.Root.Laws.{le-root, sq}
+use Rattle.rounding.specs.Fraction.{fraction-weaken}
+use Rattle.rounding.specs.Root.Laws.{le-root, root-weaken, sq}
 use Rattle.rounding.specs.Signed.{∣_∣, square, _·_}
 use Rattle.colour.specs.Conversion.{Lab}
 use Rattle.sheet.specs.Settings.{Factor}
-use Rattle.sheet.specs.Sheet.{chroma, chromaOf, change, sameHue, hueChange, semiAxisC, hueQ, hueW, hueF, secondForm, hueM, hueT, hueP, hueG}
-use Rattle.sheet.specs.Sheet.{semiAxesCIELAB, semiAxesCIE94, semiAxesCMC, semiAxes}
-use Rattle.sheet.specs.Sheet.Laws.{chroma-pos, le-hueW, hueW-pos, hueF-le, hueM-le, hueT-le, le-hueT, le-hueG, hueSemiAxis-neutral, hueSemiAxis-chromatic}
-use Rattle.sheet.specs.Sheet.Laws.{abs-change}
+use Rattle.sheet.specs.Sheet.{chroma, chromaOf, change, sameHue, hueChange, semiAxisC, hueQ, hueW, hueF, secondForm}
+use Rattle.sheet.specs.Sheet.{hueM, hueT, hueP, hueG, semiAxesCIELAB, semiAxesCIE94, semiAxesCMC, semiAxes}
+use Rattle.sheet.specs.Sheet.Laws.{chroma-pos, le-hueW, hueW-pos, hueF-le, hueM-le, hueT-le, le-hueT, le-hueG}
+use Rattle.sheet.specs.Sheet.Laws.{hueSemiAxis-neutral, hueSemiAxis-chromatic, abs-change}
 use Rattle.sheet.specs.Sheet.Facts.{semi-axes-at-least, divisors}
 use Rattle.sheet.specs.declared.formula.Formula.{Formula}
 use Rattle.sheet.specs.declared.formula.Formula.the-variants.{CIELAB, CIE94, CMC}
-use Rattle.finer.specs.Rounded.{fraction-weaken, root-weaken}
 use Rattle.finer.specs.Loose.{Loose, LooseHue, LooseCMC, LooseSemiAxes, LooseDifferences}
 use Rattle.finer.specs.Loose.Sheets.{dataOf, quantities}
-use Rattle.finer.specs.Loose.Lines.{chroma-root, hueChange-root, dark-fraction, light-fraction, semiAxisC-fraction, hueQ-fraction}
-use Rattle.finer.specs.Loose.Lines.{hueW-root, hueF-fraction, hueT-fraction, hueP-fraction, hueG-sum, semiAxisH-fraction}
-use Rattle.finer.specs.Loose.Lines.{semiAxisC94-fraction, semiAxisH94-fraction, component-fraction, componentH-fraction, total-root}
+use Rattle.finer.specs.Loose.Lines.{chroma-root, hueChange-root, dark-fraction, light-fraction}
+use Rattle.finer.specs.Loose.Lines.{semiAxisC-fraction, hueQ-fraction, hueW-root, hueF-fraction, hueT-fraction}
+use Rattle.finer.specs.Loose.Lines.{hueP-fraction, hueG-sum, semiAxisH-fraction, semiAxisC94-fraction}
+use Rattle.finer.specs.Loose.Lines.{semiAxisH94-fraction, component-fraction, componentH-fraction, total-root}
 use Rattle.finer.specs.Loose.Lines.{pow-is-coarse, pow-add-seven}
 use Rattle.finer.specs.Loose.Times.{finerBy, squares-times}
 
@@ -65,7 +66,8 @@ pub 1-le-3G :
 -- a chroma on a grid K times finer is 0 or at least K
 le-chroma-times : (K : ℕ) (a b : ℤ) → 0 < square (K · a) + square (K · b) → K ≤ chroma (K · a) (K · b)
 unfolding chroma
-le-chroma-times K a b h = le-root 2 _ K (omega arith) (rw (sq, squares-times) (at-least (square a + square b) (rw squares-times at h)))
+le-chroma-times K a b h =
+    le-root 2 _ K (omega arith) (rw (sq, squares-times) (at-least (square a + square b) (rw squares-times at h)))
   where
     at-least : (x : ℕ) → 0 < K * K * x → K * K ≤ K * K * x
     at-least x p = either (decLe 1 x)
@@ -109,7 +111,9 @@ module _ (n : ℕ) (from20 : 20 ≤ n) where
         P = fraction-weaken some (hueP-fraction n F T′);
         G = hueG-sum n (hueP n F T′) F (hueF-le n Q);
         1≤3G = 1-le-3G n from20 a b p;
-        SH = rw (hueSemiAxis-chromatic n a b C (semiAxisC n C) p) (fraction-weaken some (semiAxisH-fraction n (semiAxisC n C) _));
+        SH =
+            rw (hueSemiAxis-chromatic n a b C (semiAxisC n C) p)
+            (fraction-weaken some (semiAxisH-fraction n (semiAxisC n C) _));
       }
 
   cmc-loose :
@@ -139,7 +143,8 @@ module _ (n : ℕ) (from20 : 20 ≤ n) where
   semi-axes-loose CMC l c R T K≤C = cmc-loose l c R T K≤C
 
   differences-loose :
-      (f : Formula) {l c : ℕ} → Factor l → Factor c → (R T : Lab) → LooseDifferences K (2 ^ n) (dataOf f l c R T) (quantities n f l c R T)
+      (f : Formula) {l c : ℕ} → Factor l → Factor c → (R T : Lab) →
+      LooseDifferences K (2 ^ n) (dataOf f l c R T) (quantities n f l c R T)
   unfolding dataOf quantities
   differences-loose f hl hc R T =
       let low = semi-axes-at-least n from20 f R in

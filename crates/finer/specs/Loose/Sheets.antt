@@ -1,5 +1,5 @@
--- Section 2, the sheet as a loose sheet reads it: the exact numbers of two colours, the quantities of the sheet at n places, and K times each
--- quantity. Assumes nothing.
+-- Section 2, the sheet as a loose sheet reads it: the exact numbers of two colours, the quantities of the sheet at n
+-- places, and K times each quantity. Assumes nothing.
 use mathlib.Core.Path.{_≡_, refl}
 use mathlib.Core.Bool.{Bool}
 use Prim.Native.Nat.{ℕ, _+_, _*_}
@@ -7,7 +7,8 @@ use lib.IntN.{ℤ}
 use Rattle.rounding.specs.Signed.{∣_∣, square}
 use Rattle.colour.specs.declared.conversion.GridColour.{GridColour}
 use Rattle.colour.specs.Conversion.{Lab, atPlaces}
-use Rattle.sheet.specs.Sheet.{chromaOf, distance², change, cross, dot, sameHue, hueChange, hueQ, hueW, hueF, secondForm, hueM, hueT, hueP, hueG}
+use Rattle.sheet.specs.Sheet.{chromaOf, distance², change, cross, dot, sameHue, hueChange, hueQ, hueW, hueF, secondForm}
+use Rattle.sheet.specs.Sheet.{hueM, hueT, hueP, hueG}
 use Rattle.sheet.specs.Sheet.{semiAxes, shift, factorUnder, component, componentH, total, differences, sheet}
 use Rattle.sheet.specs.declared.semi_axes.SemiAxes.{SemiAxes}
 use Rattle.sheet.specs.declared.formula.Formula.{Formula}
@@ -66,7 +67,8 @@ quantities n f l c R T =
 
 -- its DE is the sheet's
 pub quantities-DE :
-    (n : ℕ) (f : Formula) (l c : ℕ) (R T : GridColour) → quantities n f l c (atPlaces n R) (atPlaces n T) .DE ≡ sheet n f l c R T .DE
+    (n : ℕ) (f : Formula) (l c : ℕ) (R T : GridColour) →
+    quantities n f l c (atPlaces n R) (atPlaces n T) .DE ≡ sheet n f l c R T .DE
 unfolding quantities sheet differences shift
 quantities-DE n f l c R T = refl
 

@@ -1,5 +1,5 @@
--- Section 2, the exact numbers of two colours on a grid K times finer: coordinates grow K times, squares K² times, and neither the signs, nor
--- whether the hue is the same, nor the form of T, change. Assumes nothing.
+-- Section 2, the exact numbers of two colours on a grid K times finer: coordinates grow K times, squares K² times,
+-- and neither the signs, nor whether the hue is the same, nor the form of T, change. Assumes nothing.
 use mathlib.Core.Path.{_≡_, refl, sym, ap, ap₂, _∙_}
 use mathlib.Core.Bool.{Bool, true, false, not, _&&_, _||_}
 use mathlib.Core.Logic.{_⊎_, inl, inr}
@@ -66,7 +66,8 @@ module _ (K : ℕ) where
   unfolding hueM
   hueM-times false a b =
       ap (λ (z : ℤ). ∣ z ∣) (less-times 81915204 57357644 a b) ∙ abs-mul (pos K) (81915204 · a -ℤ 57357644 · b)
-  hueM-times true a b = ap (λ (z : ℤ). ∣ z ∣) (sum-times 97814760 20791169 a b) ∙ abs-mul (pos K) (97814760 · a +ℤ 20791169 · b)
+  hueM-times true a b =
+      ap (λ (z : ℤ). ∣ z ∣) (sum-times 97814760 20791169 a b) ∙ abs-mul (pos K) (97814760 · a +ℤ 20791169 · b)
 
   pub secondForm-times : (a b : ℤ) → 0 < K → secondForm (K · a) (K · b) ≡ secondForm a b
   unfolding secondForm
@@ -82,15 +83,18 @@ module _ (K : ℕ) where
       let k = diff-parts (pos K) in
       let p = diff-parts x in
       let q = diff-parts y in
-      diff-same _ _ _ _ (omega arith) (diff-mul (diff-mul k p) (diff-mul k q)) (diff-mul (diff-parts (pos (K * K))) (diff-mul p q))
+      let k² = diff-parts (pos (K * K)) in
+      diff-same _ _ _ _ (omega arith) (diff-mul (diff-mul k p) (diff-mul k q)) (diff-mul k² (diff-mul p q))
 
   cross-times : (aR bR aT bT : ℤ) → cross (K · aR) (K · bR) (K · aT) (K · bT) ≡ (K * K) · cross aR bR aT bT
   unfolding cross
-  cross-times aR bR aT bT = ap₂ _-ℤ_ (product-times aR bT) (product-times aT bR) ∙ sub-scaled (K * K) (aR *ℤ bT) (aT *ℤ bR)
+  cross-times aR bR aT bT =
+      ap₂ _-ℤ_ (product-times aR bT) (product-times aT bR) ∙ sub-scaled (K * K) (aR *ℤ bT) (aT *ℤ bR)
 
   dot-times : (aR bR aT bT : ℤ) → dot (K · aR) (K · bR) (K · aT) (K · bT) ≡ (K * K) · dot aR bR aT bT
   unfolding dot
-  dot-times aR bR aT bT = ap₂ _+ℤ_ (product-times aR aT) (product-times bR bT) ∙ sym (mul-add-ℤ (pos (K * K)) (aR *ℤ aT) (bR *ℤ bT))
+  dot-times aR bR aT bT =
+      ap₂ _+ℤ_ (product-times aR aT) (product-times bR bT) ∙ sym (mul-add-ℤ (pos (K * K)) (aR *ℤ aT) (bR *ℤ bT))
 
 pub eqb-zero-times : (k m : ℕ) → 0 < k → eqb (k * m) 0 ≡ eqb m 0
 eqb-zero-times k m some = either (eq-zero-or-pos m)
@@ -101,9 +105,11 @@ eqb-zero-times k m some = either (eq-zero-or-pos m)
 
 pub sameHue-times :
     (K : ℕ) → 0 < K → (aR bR aT bT : ℤ) →
-    sameHue (cross (K · aR) (K · bR) (K · aT) (K · bT)) (dot (K · aR) (K · bR) (K · aT) (K · bT)) ≡ sameHue (cross aR bR aT bT) (dot aR bR aT bT)
+    sameHue (cross (K · aR) (K · bR) (K · aT) (K · bT)) (dot (K · aR) (K · bR) (K · aT) (K · bT))
+    ≡ sameHue (cross aR bR aT bT) (dot aR bR aT bT)
 unfolding sameHue
-sameHue-times K some aR bR aT bT = rw (cross-times K aR bR aT bT, dot-times K aR bR aT bT) (ap₂ (λ (p q : Bool). p && not q) zero sign)
+sameHue-times K some aR bR aT bT =
+    rw (cross-times K aR bR aT bT, dot-times K aR bR aT bT) (ap₂ (λ (p q : Bool). p && not q) zero sign)
   where
     x : ℤ
     x = cross aR bR aT bT

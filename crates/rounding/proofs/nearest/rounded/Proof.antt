@@ -1,4 +1,5 @@
--- `nearest::rounded` meets its contract: half of den, rounded down, may be added first (`nearest-add`). Assumes nothing.
+-- `nearest::rounded` meets its contract: half of den, rounded down, may be added first (`nearest-add`). Assumes
+-- nothing.
 use mathlib.Core.Path.{_≡_, sym, ap, _∙_}
 use native.Mathlib.Nat.{div-le-self, lt-of-le-of-lt}
 use native.Mathlib.Omega.{arith}
@@ -19,4 +20,6 @@ returns c =
 pub rounded-spec : {M : Type 1} → statement M
 rounded-spec =
     tie.close
-    (tie.spec (λ c. omega (arith, c .pre .1)) (λ c. search needs) (λ c κs. lt-of-le-of-lt (div-le-self _ _) (omega (arith, c .pre .1))) returns)
+    (tie.spec (λ c. omega (arith, c .pre .1)) (λ c. search needs)
+    (λ c κs. lt-of-le-of-lt (div-le-self _ _) (omega (arith, c .pre .1)))
+    returns)
