@@ -1,4 +1,5 @@
--- Words about a text, which is a list of bytes. Definitions only: Bytes/Laws.antt has what the proofs go by. Assumes nothing.
+-- Words about a text, which is a list of bytes. Definitions only: Bytes/Laws.antt has what the proofs go by.
+-- Assumes nothing.
 use Prim.Native.Nat.{ℕ, suc, _+_}
 use mathlib.Core.Bool.{Bool, true, false, cond, _&&_}
 use mathlib.Core.List.{List, [], _∷_}

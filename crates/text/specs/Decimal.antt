@@ -1,5 +1,5 @@
--- 01-scope.md, "Numbers": a number as a decimal. `Decimal/Laws.antt` has what callers go by, `Number/Written.antt` reads the digits back, and
--- `Decimal/Cases.antt` has some figures. Assumes nothing.
+-- docs/SCOPE.md 10.3: a number as a decimal. `Decimal/Laws.antt` has what callers go by, `Number/Written.antt` reads
+-- the digits back, and `Decimal/Cases.antt` has some figures. Assumes nothing.
 use mathlib.Core.Bool.{Bool, cond, _&&_}
 use mathlib.Core.List.{List, [], _∷_}
 use Prim.Native.Nat.{ℕ, zero, suc, _+_, _*_, _/_, _%_, _^_}
@@ -10,7 +10,8 @@ use Rattle.text.specs.declared.decimal.Shown.{Shown}
 pub mod Laws
 pub mod Cases
 
--- m units, of which perOne make one, counted in units of 10 ^ -places: rounded down. Every figure that is printed is rounded here.
+-- m units, of which perOne make one, counted in units of 10 ^ -places: rounded down. Every figure that is printed is
+-- rounded here.
 unfoldable pub shown : (places perOne m : ℕ) → ℕ
 shown places perOne m = m * 10 ^ places / perOne
 

@@ -11,3 +11,7 @@ pub mod Names
 pub mod Bytes
 -- numbers in decimal digits
 pub mod Number
+-- a text's lines
+pub mod Lines
+-- any two outcomes that a contract admits are equal
+pub mod One

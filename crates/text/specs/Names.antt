@@ -1,4 +1,4 @@
--- The names of formulas and whites as 01-scope.md has them, "Refusal numbers" and "Whites": a ticket says them and a report prints them.
+-- docs/SCOPE.md 4, 9.2: the names of formulas and whites. A ticket says them and a report prints them.
 -- Assumes nothing.
 use Prim.Native.Nat.{ℕ}
 use mathlib.Core.List.{List}

@@ -1,4 +1,4 @@
--- Numbers in decimal digits, as 01-scope.md, "Ticket and report", has them. Definitions only: Number/Laws.antt has what the proofs go by.
+-- docs/SCOPE.md 9.2: numbers in decimal digits. Definitions only: Number/Laws.antt has what the proofs go by.
 -- Assumes nothing.
 use Prim.Native.Nat.{ℕ, _+_, _-_, _*_, _^_}
 use mathlib.Core.Bool.{Bool, true, false, cond, _&&_}
@@ -44,4 +44,6 @@ decimalBelow below m = record { below = below; millionths = m }
 
 -- ref, test: perhaps a minus, 1 to 3 digits, perhaps a point and 1 to 6 digits
 unfoldable pub signedOf : List ℕ → Option Decimal
-signedOf s = cond (startsWith (ascii "-") s) (Option·map (decimalBelow true) (decimalOf 3 6 (drop 1 s))) (Option·map (decimalBelow false) (decimalOf 3 6 s))
+signedOf s =
+    cond (startsWith (ascii "-") s) (Option·map (decimalBelow true) (decimalOf 3 6 (drop 1 s)))
+    (Option·map (decimalBelow false) (decimalOf 3 6 s))

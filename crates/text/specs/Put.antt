@@ -1,4 +1,5 @@
--- A text put into a list of bytes, and what a function that puts one ensures. Laws are in `Put/Laws.antt`. Assumes nothing.
+-- A text put into a list of bytes, and what a function that puts one ensures. Laws are in `Put/Laws.antt`.
+-- Assumes nothing.
 use mathlib.Core.Path.{_≡_}
 use mathlib.Core.List.{List, [], _∷_, _++_}
 use Prim.Native.Nat.{ℕ, _+_, _≤_}

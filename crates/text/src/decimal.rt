@@ -6,7 +6,8 @@ ghost use lib.ListN.{length};
 ghost use Rattle.text.specs.Put.{Room, Puts};
 ghost use Rattle.text.specs.Decimal.{wholeText, lastDigits, minusSign, decimalText};
 
-// A decimal as it is shown: its magnitude in units of 10^-places and in whole ones, and whether a minus stands before it.
+// A decimal as it is shown: its magnitude in units of 10^-places and in whole ones, and whether a minus stands before
+// it.
 pub struct Shown {
     pub places: u32,
     pub minus: bool,

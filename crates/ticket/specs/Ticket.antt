@@ -1,5 +1,7 @@
--- The ticket of 01-scope.md, "Ticket and report": its lines in their order, and the number of the first wrong one. Definitions only:
--- Ticket/Laws.antt has what the proofs go by, Ticket/Theorems.antt what the grammar comes to, Ticket/Cases.antt texts and their answers. Assumes nothing.
+-- The ticket of docs/SCOPE.md 9.1 to 9.3 as the code reads it, line by line: the ticket, or the number of the first
+-- wrong line. Definitions only. Ticket/Grammar.antt says the same of a text's lines, with no parser, and shows the two
+-- to be one; Ticket/Laws.antt has what the proofs go by, Ticket/Theorems.antt what follows, Ticket/Cases.antt texts and
+-- their answers. Assumes nothing.
 use Prim.Native.Nat.{ℕ, _+_}
 use mathlib.Core.Bool.{cond, _&&_}
 use mathlib.Core.List.{List, [], _∷_}
@@ -24,6 +26,7 @@ use Rattle.ticket.specs.declared.lines.Ticket.{Ticket}
 use Rattle.ticket.specs.declared.lines.Parsed.{Parsed}
 use Rattle.ticket.specs.declared.lines.Parsed.the-variants.{Right, Wrong}
 pub mod Laws
+pub mod Grammar
 pub mod Print
 pub mod Theorems
 pub mod Cases
@@ -52,12 +55,18 @@ unfoldable pub inSpace : Space → (x y z : Decimal) → Written
 inSpace Xyz x y z = W.Xyz x y z
 inSpace Lab x y z = W.Lab x y z
 
+abbrev pub spaceOf : Written → Space
+spaceOf (W.Xyz x y z) = Xyz
+spaceOf (W.Lab x y z) = Lab
+
 abbrev pub three : {A B : Type 0} → (A → A → A → B) → Option A → Option A → Option A → Option B
 three f p q r = both (λ g z. g z) (both f p q) r
 
 -- three numbers, one space between
 unfoldable pub readingOf : Space → List ℕ → Option Written
-readingOf space s = three (inSpace space) (signedOf (before 32 s)) (signedOf (before 32 (after 32 s))) (signedOf (after 32 (after 32 s)))
+readingOf space s =
+    three (inSpace space) (signedOf (before 32 s)) (signedOf (before 32 (after 32 s)))
+    (signedOf (after 32 (after 32 s)))
 
 -- ---- a line
 
@@ -65,15 +74,17 @@ abbrev pub orWrong : {A : Type 0} → ℕ → Option A → (A → Parsed) → Pa
 orWrong n none next = Wrong n
 orWrong n (some x) next = next x
 
--- The text s starts with line n, a line KEY=VALUE that ends at the first LF. A line that is missing or lacks its LF, another key
--- and a value that says nothing are wrong; otherwise `next` has what the value says, and the text after the LF.
+-- The text s starts with line n, a line KEY=VALUE that ends at the first LF. A line that is missing or lacks its LF,
+-- another key and a value that says nothing are wrong; otherwise `next` has what the value says, and the text after the
+-- LF.
 unfoldable pub due : {A : Type 0} → ℕ → (key : List ℕ) → (List ℕ → Option A) → (A → List ℕ → Parsed) → List ℕ → Parsed
 due n key value next s =
     cond (has 10 s && startsWith key (before 10 s))
     (orWrong n (value (drop (length key) (before 10 s))) (λ x. next x (after 10 s)))
     (Wrong n)
 
--- ---- the lines in their order, the last one first; n is the number of the line that the text starts with, p the settings so far
+-- ---- the lines in their order, the last one first
+-- n is the number of the line that the text starts with, p the settings so far
 
 -- nothing may follow
 unfoldable pub nothingMore : ℕ → Ticket → List ℕ → Parsed
@@ -81,7 +92,9 @@ nothingMore n t [] = Right t
 nothingMore n t (x ∷ s) = Wrong n
 
 unfoldable pub testLine : ℕ → Settings → Space → (reference : Written) → List ℕ → Parsed
-testLine n p space r = due n (ascii "test=") (readingOf space) (λ t. nothingMore (n + 1) (record { settings = p; reference = r; test = t }))
+testLine n p space r =
+    due n (ascii "test=") (readingOf space)
+    (λ t. nothingMore (n + 1) (record { settings = p; reference = r; test = t }))
 
 unfoldable pub refLine : ℕ → Settings → Space → List ℕ → Parsed
 refLine n p space = due n (ascii "ref=") (readingOf space) (testLine (n + 1) p space)

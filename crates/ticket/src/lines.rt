@@ -1,4 +1,5 @@
-// The lines of a ticket, in their order: each function reads one line of what is left of the text, and hands the rest on.
+// The lines of a ticket, in their order: each function reads one line of what is left of the text, and hands the rest
+// on.
 use crate::value::FormulaRead;
 use crate::value::ReadingRead;
 use crate::value::Space;
@@ -18,7 +19,8 @@ use text::number::NumberRead;
 use text::number::thousandths;
 ghost use mathlib.Core.Path.{_≡_};
 ghost use Prim.Native.Nat.{_≤_};
-ghost use Rattle.ticket.specs.Ticket.{whiteLine, factorLines, cLine, tolLine, spaceLine, refLine, testLine, ticketOf};
+ghost use Rattle.ticket.specs.Ticket.{whiteLine, factorLines, cLine, tolLine, spaceLine, refLine, testLine};
+ghost use Rattle.ticket.specs.Ticket.{ticketOf};
 ghost use Rattle.ticket.specs.Ticket.Laws.{valueOf};
 
 pub struct Ticket {

@@ -52,7 +52,9 @@ module _ (key s : List ℕ) (i : ℕ) where
       let hs : i < length s = omega arith in
       rw (drop-cons key i 0 h, drop-cons s i 0 hs, eq-eqb (getD key i 0) (getD s i 0) e, add-one i)
 
-  pub starts-false : i < length key → length key ≤ length s → (getD key i 0 ≡ getD s i 0 → ⊥) → startsWith (drop i key) (drop i s) ≡ false
+  pub starts-false :
+      i < length key → length key ≤ length s → (getD key i 0 ≡ getD s i 0 → ⊥) →
+      startsWith (drop i key) (drop i s) ≡ false
   unfolding startsWith
   starts-false h k e =
       let hs : i < length s = omega arith in
@@ -88,4 +90,5 @@ module _ (b : ℕ) (s : List ℕ) {i : ℕ} (f : Found b s i) where
 
   pub nothing-after : length s ≤ i → _≡_ {A = List ℕ} [] (after b s)
   unfolding after
-  nothing-after h = sym (ap (λ (k : ℕ). drop (k + 1) s) (sym (f .first)) ∙ drop-of-length-le s {i = i + 1} (omega arith))
+  nothing-after h =
+      sym (ap (λ (k : ℕ). drop (k + 1) s) (sym (f .first)) ∙ drop-of-length-le s {i = i + 1} (omega arith))

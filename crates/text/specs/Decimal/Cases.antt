@@ -11,7 +11,7 @@ abbrev figure : (below : Bool) (m : ℕ) → List ℕ
 figure below m = decimalText (shownAs 4 (2 ^ 20) below m)
 
 pub record DecimalCases : Type 0 where
-  -- case 7 of 01, 0.91885..
+  -- case 7 of SCOPE 12.1, 0.91885..
   pub case-7 : figure false 963487 ≡ ascii "0.9188"
   pub ten : decimalText (withPlaces 3 false 10000) ≡ ascii "10.000"
   pub minus-one : figure true (2 ^ 20) ≡ ascii "-1.0000"
@@ -22,4 +22,5 @@ pub record DecimalCases : Type 0 where
 
 pub decimal-cases : DecimalCases
 unfolding decimalText shown widthIn lastDigits
-decimal-cases = record { case-7 = refl; ten = refl; minus-one = refl; minus-lost = refl; minus-kept = refl; greatest = refl }
+decimal-cases =
+    record { case-7 = refl; ten = refl; minus-one = refl; minus-lost = refl; minus-kept = refl; greatest = refl }

@@ -15,7 +15,9 @@ use Rattle.text.specs.declared.decimal.Shown.{Shown}
 -- ---- what is shown
 
 -- the whole ones and the rest, each by itself, so that no product is large
-pub shown-split : (places perOne m : ℕ) → 0 < perOne → shown places perOne m ≡ m / perOne * 10 ^ places + m % perOne * 10 ^ places / perOne
+pub shown-split :
+    (places perOne m : ℕ) → 0 < perOne →
+    shown places perOne m ≡ m / perOne * 10 ^ places + m % perOne * 10 ^ places / perOne
 unfolding shown
 shown-split places perOne m h =
     let ten : ℕ = 10 ^ places in
@@ -24,13 +26,15 @@ shown-split places perOne m h =
     rw split (mul-add-div-right h (m / perOne * ten) (m % perOne * ten))
 
 -- below so many ones, fewer than these are shown
-pub shown-whole-lt : (places perOne ones m : ℕ) → 0 < perOne → m < ones * perOne → shown places perOne m / 10 ^ places < ones
+pub shown-whole-lt :
+    (places perOne ones m : ℕ) → 0 < perOne → m < ones * perOne → shown places perOne m / 10 ^ places < ones
 unfolding shown
 shown-whole-lt places perOne ones m h f =
     let ten : ℕ = 10 ^ places in
     let some : 0 < ten = one-le-pow places 10 (omega arith) in
     let scaled : m * ten < ones * ten * perOne = omega (arith, mul-lt-mul-of-pos-right f some) in
-    div-lt-iff-lt-mul {k = ten} {x = m * ten / perOne} {y = ones} some .1 (div-lt-iff-lt-mul {k = perOne} {x = m * ten} {y = ones * ten} h .1 scaled)
+    div-lt-iff-lt-mul {k = ten} {x = m * ten / perOne} {y = ones} some .1
+    (div-lt-iff-lt-mul {k = perOne} {x = m * ten} {y = ones * ten} h .1 scaled)
 
 -- ---- digits
 
@@ -64,7 +68,8 @@ unfolding widthIn
 width-in-more k n h = rw (le-ltb n 10 h)
 
 pub one-or-more : (n : ℕ) → (n < 10) ⊎ (10 ≤ n)
-one-or-more n = ⊎-elim (λ (h : n / 10 ≡ 0). inl (omega arith)) (λ (h : 0 < n / 10). inr (omega arith)) (eq-zero-or-pos (n / 10))
+one-or-more n =
+    ⊎-elim (λ (h : n / 10 ≡ 0). inl (omega arith)) (λ (h : 0 < n / 10). inr (omega arith)) (eq-zero-or-pos (n / 10))
 
 pub div-ten-lt : (k : ℕ) {n : ℕ} → n < 10 ^ suc k → n / 10 < 10 ^ k
 div-ten-lt k {n} h = div-lt-iff-lt-mul {k = 10} {x = n} {y = 10 ^ k} (omega arith) .1 (rw pow-suc at h)
@@ -75,7 +80,8 @@ unfolding widthIn
 width-in-enough zero j n hk hj = sym (width-in-small j n (omega (arith, pow-zero 10)))
 width-in-enough (suc k) zero n hk hj = width-in-small (suc k) n (omega (arith, pow-zero 10))
 width-in-enough (suc k) (suc j) n hk hj =
-    let ih : widthIn k (n / 10) ≡ widthIn j (n / 10) = width-in-enough k j (n / 10) (div-ten-lt k hk) (div-ten-lt j hj) in
+    let ih : widthIn k (n / 10) ≡ widthIn j (n / 10) =
+    width-in-enough k j (n / 10) (div-ten-lt k hk) (div-ten-lt j hj) in
     ⊎-elim
     (λ (h : n < 10). width-in-small (suc k) n h ∙ sym (width-in-small (suc j) n h))
     (λ (h : 10 ≤ n). width-in-more k n h ∙ ap (λ (w : ℕ). w + 1) ih ∙ sym (width-in-more j n h))
@@ -98,7 +104,8 @@ unfolding widthIn
 width-in-few zero n = omega arith
 width-in-few (suc k) n =
     let ih : widthIn k (n / 10) ≤ k + 1 = width-in-few k (n / 10) in
-    ⊎-elim (λ (f : n < 10). omega (arith, width-in-small (suc k) n f)) (λ (f : 10 ≤ n). omega (arith, width-in-more k n f)) (one-or-more n)
+    ⊎-elim (λ (f : n < 10). omega (arith, width-in-small (suc k) n f))
+    (λ (f : 10 ≤ n). omega (arith, width-in-more k n f)) (one-or-more n)
 
 pub width-few : (n : ℕ) → width n ≤ 21
 width-few n = width-in-few 20 n
@@ -107,7 +114,8 @@ pub width-small : (n : ℕ) → n < 10 → width n ≡ 1
 width-small n h = width-in-small 20 n h
 
 pub width-more : (n : ℕ) → n < 10 ^ 20 → 10 ≤ n → width n ≡ width (n / 10) + 1
-width-more n f h = width-in-more 19 n h ∙ ap (λ (w : ℕ). w + 1) (width-in-enough 19 20 (n / 10) (div-ten-lt 19 f) (omega arith))
+width-more n f h =
+    width-in-more 19 n h ∙ ap (λ (w : ℕ). w + 1) (width-in-enough 19 20 (n / 10) (div-ten-lt 19 f) (omega arith))
 
 pub width-le : (k n : ℕ) → 0 < k → n < 10 ^ k → width n ≤ k
 width-le zero n z h = absurd (omega arith)
@@ -115,6 +123,7 @@ width-le (suc k) n z h = width-in-le 20 k n h
 
 -- ---- a decimal
 
-pub decimal-length : (d : Shown) → length (decimalText d) ≡ length (minusSign (d .minus)) + width (d .whole) + 1 + d .places
+pub decimal-length :
+    (d : Shown) → length (decimalText d) ≡ length (minusSign (d .minus)) + width (d .whole) + 1 + d .places
 unfolding decimalText
 decimal-length d = simp (length-append, last-digits-length) (omega arith)

@@ -9,7 +9,8 @@ use lib.ListN.{length, take, drop, getD, drop-of-length-le}
 use lib.Pow.{pow-add}
 use lib.Seq.{drop-cons}
 use native.Mathlib.Omega.{arith}
-use native.Mathlib.Nat.{pow-suc, pow-succ', pow-le-pow-right, mul-le-mul-right, mul-le-mul-left, mul-lt-mul-of-pos-right}
+use native.Mathlib.Nat.{pow-suc, pow-succ', pow-le-pow-right, mul-le-mul-right, mul-le-mul-left}
+use native.Mathlib.Nat.{mul-lt-mul-of-pos-right}
 use native.Mathlib.Numerals.{add-one}
 use borrow.Author.Tests.{lt-ltb, le-ltb, le-leb, lt-leb, leb-true}
 use Rattle.colour.specs.Conversion.Laws.{both-true}
@@ -36,7 +37,9 @@ signedIn (S.Is x) = some x
 -- ---- digits, for a loop that has come to index i with v
 
 module _ (v : ℕ) (s : List ℕ) (i : ℕ) where
-  pub numeral-next : i < length s → 48 ≤ getD s i 0 → getD s i 0 ≤ 57 → numeral v (drop i s) ≡ numeral (v * 10 + (getD s i 0 - 48)) (drop (i + 1) s)
+  pub numeral-next :
+      i < length s → 48 ≤ getD s i 0 → getD s i 0 ≤ 57 →
+      numeral v (drop i s) ≡ numeral (v * 10 + (getD s i 0 - 48)) (drop (i + 1) s)
   unfolding numeral
   numeral-next h p q = rw (drop-cons s i 0 h, le-leb _ _ p, le-leb _ _ q, add-one i)
 
@@ -86,7 +89,8 @@ numeral-lt (d ∷ s) v {w} e =
     let g = some-only (leb 48 d && leb d 57) (numeral (v * 10 + (d - 48)) s) e in
     let k : d ≤ 57 = leb-true _ _ (both-true (leb 48 d) (leb d 57) (g .0) .1) in
     let ih : w < (v * 10 + (d - 48) + 1) * 10 ^ length s = numeral-lt s (v * 10 + (d - 48)) (g .1) in
-    let m : (v * 10 + (d - 48) + 1) * 10 ^ length s ≤ ((v + 1) * 10) * 10 ^ length s = mul-le-mul-right (10 ^ length s) (omega arith) in
+    let m : (v * 10 + (d - 48) + 1) * 10 ^ length s ≤ ((v + 1) * 10) * 10 ^ length s =
+    mul-le-mul-right (10 ^ length s) (omega arith) in
     omega (arith, ap (λ (k : ℕ). (v + 1) * k) (pow-succ' 10 (length s)))
 
 pub ten-pos : (k : ℕ) → 0 < 10 ^ k
@@ -119,11 +123,14 @@ module _ (places : ℕ) (s : List ℕ) {i : ℕ} (f : Found 46 s i) where
 scaled-lt : (places : ℕ) (t : List ℕ) {d : ℕ} → digitsOf places t ≡ some d → d * 10 ^ (places - length t) < 10 ^ places
 scaled-lt places t {d} e =
     let b = digits-lt places t e in
-    let m : d * 10 ^ (places - length t) < 10 ^ length t * 10 ^ (places - length t) = mul-lt-mul-of-pos-right (b .small) (ten-pos (places - length t)) in
-    let q : 10 ^ length t * 10 ^ (places - length t) ≡ 10 ^ places = sym (pow-add 10 (length t) (places - length t)) ∙ ap (λ (k : ℕ). 10 ^ k) (omega arith) in
+    let m : d * 10 ^ (places - length t) < 10 ^ length t * 10 ^ (places - length t) =
+    mul-lt-mul-of-pos-right (b .small) (ten-pos (places - length t)) in
+    let q : 10 ^ length t * 10 ^ (places - length t) ≡ 10 ^ places =
+    sym (pow-add 10 (length t) (places - length t)) ∙ ap (λ (k : ℕ). 10 ^ k) (omega arith) in
     omega arith
 
-cond-lt : (b : Bool) {o : Option ℕ} {y k : ℕ} → ((d : ℕ) → o ≡ some d → d < k) → 0 < k → cond b o (some 0) ≡ some y → y < k
+cond-lt :
+    (b : Bool) {o : Option ℕ} {y k : ℕ} → ((d : ℕ) → o ≡ some d → d < k) → 0 < k → cond b o (some 0) ≡ some y → y < k
 cond-lt true h z e = h _ e
 cond-lt false {y = y} h z e =
     let g : 0 ≡ y = cc in
@@ -141,37 +148,53 @@ fraction-lt places s {y} e =
 
 pub decimal-is :
     (whole places : ℕ) (s : List ℕ) {u : List ℕ} → u ≡ before 46 s → {o p : Option ℕ} → o ≡ digitsOf whole u → o ≡ p
-    → {g h : Option ℕ} → g ≡ fractionOf places s → g ≡ h → both (λ v d. v * 10 ^ places + d) p h ≡ decimalOf whole places s
+    → {g h : Option ℕ} → g ≡ fractionOf places s → g ≡ h →
+    both (λ v d. v * 10 ^ places + d) p h ≡ decimalOf whole places s
 unfolding decimalOf
 decimal-is whole places s eu eo ep eg eh = rw (← eu, ← eo, ep, ← eg, eh)
 
 -- ---- three digits and six places are small
 
-pub moved-lt : (places : ℕ) (t : List ℕ) {d q : ℕ} → places ≤ 6 → digitsOf places t ≡ some d → q ≡ 10 ^ (places - length t) → d * q < 1000000
+pub moved-lt :
+    (places : ℕ) (t : List ℕ) {d q : ℕ} → places ≤ 6 → digitsOf places t ≡ some d → q ≡ 10 ^ (places - length t) →
+    d * q < 1000000
 moved-lt places t {d} h e k =
-    omega (arith, scaled-lt places t e, ap (λ (z : ℕ). d * z) k, pow-le-pow-right {n = 10} (lit< tt) {i = places} {j = 6} h)
+    omega (
+      arith,
+      scaled-lt places t e,
+      ap (λ (z : ℕ). d * z) k,
+      pow-le-pow-right {n = 10} (lit< tt) {i = places}
+          {j = 6} h,
+    )
 
 pub fraction-lt-million : (places : ℕ) (s : List ℕ) {y : ℕ} → places ≤ 6 → fractionOf places s ≡ some y → y < 1000000
-fraction-lt-million places s h e = omega (arith, fraction-lt places s e, pow-le-pow-right {n = 10} (lit< tt) {i = places} {j = 6} h)
+fraction-lt-million places s h e =
+    omega (arith, fraction-lt places s e, pow-le-pow-right {n = 10} (lit< tt) {i = places} {j = 6} h)
 
 pub record Sizes (whole places : ℕ) : Type 0 where
   pub few-digits : whole ≤ 3
   pub few-places : places ≤ 6
 
-pub scaled-whole-le : (whole places : ℕ) (u : List ℕ) {x q : ℕ} → Sizes whole places → digitsOf whole u ≡ some x → q ≡ 10 ^ places → x * q ≤ 999000000
+pub scaled-whole-le :
+    (whole places : ℕ) (u : List ℕ) {x q : ℕ} → Sizes whole places → digitsOf whole u ≡ some x → q ≡ 10 ^ places →
+    x * q ≤ 999000000
 scaled-whole-le whole places u {x} h e k =
     let b = digits-lt whole u e in
     let small : x < 1000 = omega (arith, pow-le-pow-right {n = 10} (lit< tt) {i = length u} {j = 3} (omega arith)) in
-    let m : x * 10 ^ places ≤ x * 1000000 = mul-le-mul-left x (pow-le-pow-right {n = 10} (lit< tt) {i = places} {j = 6} (h .few-places)) in
+    let m : x * 10 ^ places ≤ x * 1000000 =
+    mul-le-mul-left x (pow-le-pow-right {n = 10} (lit< tt) {i = places} {j = 6} (h .few-places)) in
     omega (arith, ap (λ (z : ℕ). x * z) k)
 
 -- ---- a minus, or none
 
 module _ (s : List ℕ) {b : Bool} (e : b ≡ startsWith (ascii "-") s) where
-  pub signed-below : b ≡ true → {o p : Option ℕ} → o ≡ decimalOf 3 6 (take (length s - 1) (drop 1 s)) → o ≡ p → Option·map (decimalBelow true) p ≡ signedOf s
+  pub signed-below :
+      b ≡ true → {o p : Option ℕ} → o ≡ decimalOf 3 6 (take (length s - 1) (drop 1 s)) → o ≡ p →
+      Option·map (decimalBelow true) p ≡ signedOf s
   unfolding signedOf
   signed-below h eo ep = rw (← e, h, ← (drop-is s 1), ← eo, ep)
 
-  pub signed-above : b ≡ false → {o p : Option ℕ} → o ≡ decimalOf 3 6 s → o ≡ p → Option·map (decimalBelow false) p ≡ signedOf s
+  pub signed-above :
+      b ≡ false → {o p : Option ℕ} → o ≡ decimalOf 3 6 s → o ≡ p → Option·map (decimalBelow false) p ≡ signedOf s
   unfolding signedOf
   signed-above h eo ep = rw (← e, h, ← eo, ep)

@@ -9,14 +9,17 @@ use lib.Arith.{mod-mul}
 use lib.Dec.{lit<}
 use lib.ListN.{length}
 use native.Mathlib.Omega.{arith}
-use native.Mathlib.Nat.{pow-suc, pow-succ', one-le-pow, mod-one, mod-eq-of-lt, div-add-mod', pow-le-pow-right, lt-of-lt-of-le}
+use native.Mathlib.Nat.{pow-suc, pow-succ', one-le-pow, mod-one, mod-eq-of-lt, div-add-mod', pow-le-pow-right}
+use native.Mathlib.Nat.{lt-of-lt-of-le}
 use native.Mathlib.Numerals.{add-one}
 use borrow.Author.Tests.{le-leb, ne-eqb}
 use Rattle.text.specs.Ascii.{ascii}
 use Rattle.text.specs.Decimal.{lastDigits, widthIn, width, minusSign, decimalText, withPlaces}
-use Rattle.text.specs.Decimal.Laws.{last-digits-length, one-or-more, div-ten-lt, width-in-small, width-in-more, width-le}
+use Rattle.text.specs.Decimal.Laws.{last-digits-length, one-or-more, div-ten-lt, width-in-small, width-in-more}
+use Rattle.text.specs.Decimal.Laws.{width-le}
 use Rattle.text.specs.Bytes.{startsWith}
-use Rattle.text.specs.Bytes.Parts.{free, free-append, has-append, before-append, after-append, starts-false-of-free}
+use Rattle.text.specs.Bytes.Parts.{free, free-append, has-append, before-append, after-append}
+use Rattle.text.specs.Bytes.Parts.{starts-false-of-free}
 use Rattle.text.specs.Number.{numeral, digitsOf, fractionOf, decimalOf, thousandthsOf, decimalBelow, signedOf}
 use Rattle.text.specs.declared.decimal.Shown.{Shown}
 
@@ -75,7 +78,8 @@ numeral-last-digits (suc k) n v =
     let d = n / 10 ^ k % 10 in
     let split : n % (10 * 10 ^ k) ≡ d * 10 ^ k + n % 10 ^ k = mod-mul n (omega arith) (one-le-pow k 10 (omega arith)) in
     let e : (v * 10 + d) * 10 ^ k + n % 10 ^ k ≡ v * (10 * 10 ^ k) + n % (10 * 10 ^ k) = omega arith in
-    rw (pow-succ' 10 k) (numeral-digit d v (lastDigits k n) (omega arith) ∙ numeral-last-digits k n (v * 10 + d) ∙ ap some e)
+    rw (pow-succ' 10 k)
+    (numeral-digit d v (lastDigits k n) (omega arith) ∙ numeral-last-digits k n (v * 10 + d) ∙ ap some e)
 
 digits-written : (most k n : ℕ) → 1 ≤ k → k ≤ most → digitsOf most (lastDigits k n) ≡ some (n % 10 ^ k)
 unfolding digitsOf
@@ -91,7 +95,8 @@ free-digits b (suc k) n h = rw (ne-eqb (48 + n / 10 ^ k % 10) b (λ e. omega ari
 -- ---- decimals
 
 decimal-parts :
-    (whole places : ℕ) (u t : List ℕ) {w f : ℕ} → free 46 u ≡ true → length t ≡ places → digitsOf whole u ≡ some w → digitsOf places t ≡ some f
+    (whole places : ℕ) (u t : List ℕ) {w f : ℕ} → free 46 u ≡ true → length t ≡ places → digitsOf whole u ≡ some w →
+    digitsOf places t ≡ some f
     → decimalOf whole places (u ++ (46 ∷ t)) ≡ some (w * 10 ^ places + f)
 unfolding decimalOf fractionOf
 decimal-parts whole places u t {w} {f} h k eu et =
@@ -105,7 +110,8 @@ module _ (whole places n : ℕ) where
   q = n / 10 ^ places
 
   decimal-written :
-      0 < whole → whole ≤ 20 → 0 < places → q < 10 ^ whole → decimalOf whole places (decimalText (withPlaces places false n)) ≡ some n
+      0 < whole → whole ≤ 20 → 0 < places → q < 10 ^ whole →
+      decimalOf whole places (decimalText (withPlaces places false n)) ≡ some n
   unfolding decimalText
   decimal-written some-whole few some-places h =
       let large = lt-of-lt-of-le h (pow-le-pow-right {n = 10} (lit< tt) {i = whole} {j = 20} few) in
@@ -113,7 +119,8 @@ module _ (whole places n : ℕ) where
       let ones = digits-written whole (width q) q (width-in-pos 20 q) (width-le whole q some-whole h) ∙ ap some all in
       let rest = digits-written places places n some-places (omega arith) in
       rw (append-nil (lastDigits places n))
-      (decimal-parts whole places (lastDigits (width q) q) (lastDigits places n) (free-digits 46 (width q) q (lit< tt)) (last-digits-length places n) ones rest
+      (decimal-parts whole places (lastDigits (width q) q) (lastDigits places n) (free-digits 46 (width q) q (lit< tt))
+      (last-digits-length places n) ones rest
       ∙ ap some (div-add-mod' n (10 ^ places)))
 
 pub thousandths-written : (n : ℕ) → n < 10 ^ 5 → thousandthsOf (decimalText (withPlaces 3 false n)) ≡ some n
@@ -124,19 +131,27 @@ free-minus b true h = h
 free-minus b false h = refl
 
 -- what is neither a digit nor the point nor the minus stands in no decimal
-pub free-decimal : (b : ℕ) (d : Shown) → b < 48 → free b (ascii ".") ≡ true → free b (minusSign (d .minus)) ≡ true → free b (decimalText d) ≡ true
+pub free-decimal :
+    (b : ℕ) (d : Shown) → b < 48 → free b (ascii ".") ≡ true → free b (minusSign (d .minus)) ≡ true →
+    free b (decimalText d) ≡ true
 unfolding decimalText
 free-decimal b d h point minus =
     let places = lastDigits (d .places) (d .units) ++ [] in
     free-append b (minusSign (d .minus)) _ minus
     (free-append b (lastDigits (width (d .whole)) (d .whole)) _ (free-digits b (width (d .whole)) (d .whole) h)
-    (free-append b (ascii ".") places point (free-append b (lastDigits (d .places) (d .units)) [] (free-digits b (d .places) (d .units) h) refl)))
+    (free-append b (ascii ".") places point
+    (free-append b (lastDigits (d .places) (d .units)) [] (free-digits b (d .places) (d .units) h) refl)))
 
 millionths-written : (m : ℕ) → m < 10 ^ 9 → decimalOf 3 6 (decimalText (withPlaces 6 false m)) ≡ some m
 millionths-written m h = decimal-written 3 6 m (omega arith) (omega arith) (omega arith) (omega arith)
 
-pub signed-written : (b : Bool) (m : ℕ) → m < 10 ^ 9 → signedOf (decimalText (withPlaces 6 b m)) ≡ some (decimalBelow b m)
+pub signed-written :
+    (b : Bool) (m : ℕ) → m < 10 ^ 9 → signedOf (decimalText (withPlaces 6 b m)) ≡ some (decimalBelow b m)
 unfolding signedOf startsWith decimalText
 signed-written true m h = rw (millionths-written m h)
 signed-written false m h =
-    rw (starts-false-of-free 45 (decimalText (withPlaces 6 false m)) (free-decimal 45 (withPlaces 6 false m) (lit< tt) refl refl), millionths-written m h)
+    rw (
+      starts-false-of-free 45 (decimalText (withPlaces 6 false m))
+          (free-decimal 45 (withPlaces 6 false m) (lit< tt) refl refl),
+      millionths-written m h,
+    )

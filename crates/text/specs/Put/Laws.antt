@@ -1,12 +1,13 @@
--- Puts in a row are one put. A row of texts is written as a list of them, so that each step of a writer takes the first of what is left.
--- Assumes nothing.
+-- Puts in a row are one put. A row of texts is written as a list of them, so that each step of a writer takes the first
+-- of what is left. Assumes nothing.
 use mathlib.Core.Path.{_≡_, refl, sym, ap, _∙_, subst}
 use mathlib.Core.List.{List, [], _∷_, _++_, append-assoc, append-nil}
 use Prim.Native.Nat.{ℕ, suc, _+_, _-_, _≤_}
 use native.Mathlib.Omega.{arith}
 use native.Mathlib.Numerals.{add-one}
 use native.Mathlib.Nat.{add-zero, zero-add, add-assoc}
-use lib.ListN.{length, take, drop, getD, set, length-append, length-take, length-drop, take-append-drop, drop-of-length-le}
+use lib.ListN.{length, take, drop, getD, set, length-append, length-take, length-drop, take-append-drop}
+use lib.ListN.{drop-of-length-le}
 use lib.Seq.{paste, take-all, take-length, take-at, drop-drop, drop-append-add, set-at, take-suc, length-take-le}
 use Rattle.text.specs.Put.{putAt, Room, Puts, joined, line}
 
@@ -32,7 +33,9 @@ unfolding putAt
 put-nil xs at = simp (add-zero, append-nil) (take-append-drop at xs)
 
 -- two in a row are one
-pub put-put : (xs : List ℕ) (at : ℕ) (s t : List ℕ) → at + length s ≤ length xs → putAt (putAt xs at s) (at + length s) t ≡ putAt xs at (s ++ t)
+pub put-put :
+    (xs : List ℕ) (at : ℕ) (s t : List ℕ) → at + length s ≤ length xs →
+    putAt (putAt xs at s) (at + length s) t ≡ putAt xs at (s ++ t)
 unfolding putAt
 put-put xs at s t h =
     let p : List ℕ = take at xs ++ s in
@@ -40,18 +43,24 @@ put-put xs at s t h =
     let hp : length p ≡ at + length s = simp (length-append, length-take) (omega arith) in
     let front : take (at + length s) (p ++ q) ≡ p = take-at p q (at + length s) hp in
     let back : drop (at + length s + length t) (p ++ q) ≡ drop (at + (length s + length t)) xs =
-    ap (λ (k : ℕ). drop (k + length t) (p ++ q)) (sym hp) ∙ drop-append-add p q (length t) ∙ drop-drop (length t) (at + length s) xs
+    ap (λ (k : ℕ). drop (k + length t) (p ++ q)) (sym hp) ∙ drop-append-add p q (length t)
+    ∙ drop-drop (length t) (at + length s) xs
     ∙ ap (λ (k : ℕ). drop k xs) (add-assoc at (length s) (length t)) in
-    rw (front, back, length-append s t) (ap (λ (l : List ℕ). l ++ drop (at + (length s + length t)) xs) (append-assoc (take at xs) s t))
+    rw (front, back, length-append s t)
+    (ap (λ (l : List ℕ). l ++ drop (at + (length s + length t)) xs) (append-assoc (take at xs) s t))
 
 -- one byte more in front
-pub put-before : (xs : List ℕ) (at : ℕ) (s : List ℕ) (b : ℕ) → at + 1 + length s ≤ length xs → set (putAt xs (at + 1) s) at b ≡ putAt xs at (b ∷ s)
+pub put-before :
+    (xs : List ℕ) (at : ℕ) (s : List ℕ) (b : ℕ) → at + 1 + length s ≤ length xs →
+    set (putAt xs (at + 1) s) at b ≡ putAt xs at (b ∷ s)
 unfolding putAt
 put-before xs at s b h =
     let rest : List ℕ = drop (at + 1 + length s) xs in
     let same-rest : at + 1 + length s ≡ at + suc (length s) = omega arith in
-    let split : take (at + 1) xs ≡ take at xs ++ (getD xs at 0 ∷ []) = rw (add-one at) (take-suc xs at 0 (omega arith)) in
-    let regroup : take (at + 1) xs ++ s ++ rest ≡ take at xs ++ getD xs at 0 ∷ (s ++ rest) = rw split (simp append-assoc) in
+    let split : take (at + 1) xs ≡ take at xs ++ (getD xs at 0 ∷ []) =
+    rw (add-one at) (take-suc xs at 0 (omega arith)) in
+    let regroup : take (at + 1) xs ++ s ++ rest ≡ take at xs ++ getD xs at 0 ∷ (s ++ rest) =
+    rw split (simp append-assoc) in
     let stored = set-at (take at xs) (getD xs at 0) (s ++ rest) b at (length-take-le at xs (omega arith)) in
     rw (← same-rest, regroup, stored) (sym (append-assoc (take at xs) (b ∷ s) rest))
 
@@ -60,8 +69,10 @@ pub part-put : (xs : List ℕ) (at : ℕ) (s : List ℕ) → at + length s ≤ l
     take at xs ++ (putAt (take (length xs - at) (drop at xs)) 0 s ++ drop (length xs - at) (drop at xs)) ≡ putAt xs at s
 unfolding putAt
 part-put xs at s h =
-    let whole : take (length xs - at) (drop at xs) ≡ drop at xs = take-all (length xs - at) (drop at xs) (omega (arith, length-drop at xs)) in
-    let rest : drop (length xs - at) (drop at xs) ≡ [] = drop-of-length-le (drop at xs) {i = length xs - at} (omega (arith, length-drop at xs)) in
+    let whole : take (length xs - at) (drop at xs) ≡ drop at xs =
+    take-all (length xs - at) (drop at xs) (omega (arith, length-drop at xs)) in
+    let rest : drop (length xs - at) (drop at xs) ≡ [] =
+    drop-of-length-le (drop at xs) {i = length xs - at} (omega (arith, length-drop at xs)) in
     let regroup = sym (append-assoc (take at xs) s (drop (at + length s) xs)) in
     rw (rest, whole) (simp (zero-add, drop-drop) (ap (λ (l : List ℕ). take at xs ++ l) (append-nil _) ∙ regroup))
 
@@ -131,7 +142,8 @@ module _ {xs : List ℕ} {at : ℕ} {s : List ℕ} {ss : List (List ℕ)} (h : R
   puts-more {r} p n = record {
     end = rw (length-append s (joined ss)) (omega (arith, p .end, n .end));
     bytes =
-        n .bytes ∙ ap (λ (l : List ℕ). putAt l r (joined ss)) (p .bytes) ∙ ap (λ (k : ℕ). putAt (putAt xs at s) k (joined ss)) (p .end)
+        n .bytes ∙ ap (λ (l : List ℕ). putAt l r (joined ss)) (p .bytes)
+        ∙ ap (λ (k : ℕ). putAt (putAt xs at s) k (joined ss)) (p .end)
         ∙ put-put xs at s (joined ss) (room-first .room);
   }
 

@@ -1,4 +1,5 @@
--- Texts and their answers, by computing: 01's whole case, and each kind of wrong line with its number. Assumes nothing.
+-- Texts and their answers, by computing: the whole case of docs/SCOPE.md 11.1, and each kind of wrong line with its
+-- number. Assumes nothing.
 use Prim.Native.String.{String}
 use mathlib.Core.Path.{_≡_, refl}
 use mathlib.Core.Bool.{true, false}

@@ -30,8 +30,8 @@ use Rattle.ticket.specs.declared.lines.Ticket.{Ticket}
 use Rattle.text.specs.Bytes.{indexOf, has, before, after, startsWith, sameBytes}
 use Rattle.text.specs.Bytes.Laws.{Found, drop-is}
 use Rattle.text.specs.Number.{digitsOf, decimalOf, thousandthsOf, signedOf}
-use Rattle.ticket.specs.Ticket.{named, formulaNamed, whiteNamed, spaceNamed, inSpace, three, readingOf, orWrong, due}
-use Rattle.ticket.specs.Ticket.{nothingMore, tolLine, cLine, filled, factorLines, whiteLine, ticketOf}
+use Rattle.ticket.specs.Ticket.{named, formulaNamed, whiteNamed, spaceNamed, inSpace, three, readingOf, orWrong}
+use Rattle.ticket.specs.Ticket.{due, nothingMore, tolLine, cLine, filled, factorLines, whiteLine, ticketOf}
 
 -- ---- what the code's answers say
 
@@ -71,21 +71,25 @@ module _ (key s : List ℕ) {i : ℕ} (f : Found 10 s i) where
 
 -- ---- a line that is due, by what the code has of it: its value v, and the rest t of the text
 
-due-cond : (b : Bool) {A : Type 0} (n : ℕ) (value : List ℕ → Option A) (next : A → Parsed) (l : List ℕ) → value [] ≡ none
+due-cond :
+    (b : Bool) {A : Type 0} (n : ℕ) (value : List ℕ → Option A) (next : A → Parsed) (l : List ℕ) → value [] ≡ none
     → cond b (orWrong n (value l) next) (Wrong n) ≡ orWrong n (value (cond b l [])) next
 due-cond true n value next l e = refl
 due-cond false n value next l e = rw e
 
 module _
-    {A : Type 0} (n : ℕ) (key : List ℕ) (value : List ℕ → Option A) (next : A → List ℕ → Parsed) (s : List ℕ) (e : value [] ≡ none)
-    {v : List ℕ} (ev : v ≡ valueOf key s) where
+    {A : Type 0} (n : ℕ) (key : List ℕ) (value : List ℕ → Option A) (next : A → List ℕ → Parsed) (s : List ℕ)
+    (e : value [] ≡ none) {v : List ℕ} (ev : v ≡ valueOf key s) where
   due-value : due n key value next s ≡ orWrong n (value v) (λ x. next x (after 10 s))
   unfolding due valueOf
-  due-value = due-cond (has 10 s && startsWith key (before 10 s)) n value (λ x. next x (after 10 s)) (drop (length key) (before 10 s)) e ∙ rw ev
+  due-value =
+      let first = before 10 s in
+      due-cond (has 10 s && startsWith key first) n value (λ x. next x (after 10 s)) (drop (length key) first) e ∙ rw ev
 
   -- wrong, or what the next line makes of x and t
   pub due-read :
-      {o p : Option A} → o ≡ value v → o ≡ p → {t : List ℕ} → t ≡ after 10 s → {q : Parsed} → q ≡ orWrong n p (λ x. next x t) → q ≡ due n key value next s
+      {o p : Option A} → o ≡ value v → o ≡ p → {t : List ℕ} → t ≡ after 10 s → {q : Parsed}
+      → q ≡ orWrong n p (λ x. next x t) → q ≡ due n key value next s
   due-read eo ep et eq = eq ∙ sym (due-value ∙ rw (← eo, ep, ← et))
 
 -- an empty value says nothing
@@ -115,7 +119,8 @@ pub named-none : {A : Type 0} (name : A → List ℕ) (s : List ℕ) → none �
 unfolding named
 named-none name s = refl
 
-module _ {A : Type 0} (name : A → List ℕ) (x : A) (xs : List A) (s : List ℕ) {b : Bool} (e : b ≡ sameBytes s (name x)) where
+module _
+    {A : Type 0} (name : A → List ℕ) (x : A) (xs : List A) (s : List ℕ) {b : Bool} (e : b ≡ sameBytes s (name x)) where
   pub named-first : b ≡ true → some x ≡ named name (x ∷ xs) s
   unfolding named
   named-first h = sym (rw (← e, h))
@@ -135,8 +140,9 @@ unfolding inSpace
 in-space-lab x y z e = rw e
 
 pub reading-is :
-    (space : Space) (s : List ℕ) {t u v w : List ℕ} {p q r : Option Decimal} → t ≡ after 32 s → u ≡ before 32 s → p ≡ signedOf u
-    → v ≡ before 32 t → q ≡ signedOf v → w ≡ after 32 t → r ≡ signedOf w → three (inSpace space) p q r ≡ readingOf space s
+    (space : Space) (s : List ℕ) {t u v w : List ℕ} {p q r : Option Decimal}
+    → t ≡ after 32 s → u ≡ before 32 s → p ≡ signedOf u → v ≡ before 32 t → q ≡ signedOf v → w ≡ after 32 t
+    → r ≡ signedOf w → three (inSpace space) p q r ≡ readingOf space s
 unfolding readingOf
 reading-is space s et eu ep ev eq ew er = sym (rw (← et, ← eu, ← ep, ← ev, ← eq, ← ew, ← er))
 
@@ -157,7 +163,9 @@ module _ (n : ℕ) (p : Settings) (s : List ℕ) {b : Bool} (e : b ≡ startsWit
   unfolding factorLines
   factors-missing h = sym (rw (← e, h))
 
-  pub factors-given : b ≡ false → due n (ascii "l=") thousandthsOf (λ x. cLine (n + 1) (filled p x (p .c) (p .tolerance))) s ≡ factorLines n p s
+  pub factors-given :
+      b ≡ false
+      → due n (ascii "l=") thousandthsOf (λ x. cLine (n + 1) (filled p x (p .c) (p .tolerance))) s ≡ factorLines n p s
   unfolding factorLines
   factors-given h = sym (rw (← e, h))
 

@@ -1,20 +1,18 @@
--- A ticket's text: l, c and tol with three decimals, the numbers of ref and test with six. It stands here only to be parsed back in
--- Ticket/Theorems.antt. Assumes nothing.
+-- A ticket's text: l, c and tol with three decimals, the numbers of ref and test with six. It stands here only to be
+-- parsed back in Ticket/Theorems.antt. Assumes nothing.
 use Prim.Native.Nat.{ℕ, _^_, _<_}
 use mathlib.Core.Path.{_≡_}
 use mathlib.Core.Bool.{false}
-use mathlib.Core.List.{List, [], _∷_, _++_}
+use mathlib.Core.List.{List, [], _∷_}
 use Rattle.text.specs.Ascii.{ascii}
 use Rattle.text.specs.Decimal.{decimalText, withPlaces}
 use Rattle.text.specs.Names.{formulaName, whiteName}
-use Rattle.text.specs.Put.{joined, line}
+use Rattle.text.specs.Put.{joined}
 use Rattle.reading.specs.declared.decimal.Decimal.{Decimal}
 use Rattle.colour.specs.declared.placed.Written.{Written}
 use Rattle.colour.specs.declared.placed.Written.the-variants as W
-use Rattle.sheet.specs.declared.settings.Settings.{Settings}
-use Rattle.ticket.specs.Ticket.{spaceName}
-use Rattle.ticket.specs.declared.value.Space.{Space}
-use Rattle.ticket.specs.declared.value.Space.the-variants.{Xyz, Lab}
+use Rattle.ticket.specs.Ticket.{spaceName, spaceOf}
+use Rattle.ticket.specs.Ticket.Grammar.{Place, allPlaces, withoutLAndC, textOf}
 use Rattle.ticket.specs.declared.lines.Ticket.{Ticket}
 pub mod Laws
 pub mod Lengths
@@ -31,35 +29,28 @@ unfoldable pub readingText : Written → List ℕ
 readingText (W.Xyz x y z) = triple x y z
 readingText (W.Lab x y z) = triple x y z
 
-abbrev pub spaceOf : Written → Space
-spaceOf (W.Xyz x y z) = Xyz
-spaceOf (W.Lab x y z) = Lab
-
 -- ---- lines
 
-abbrev pub thousandthsLine : (key : List ℕ) → ℕ → List ℕ
-thousandthsLine key m = line key (decimalText (withPlaces 3 false m))
+abbrev pub thousandthsText : ℕ → List ℕ
+thousandthsText m = decimalText (withPlaces 3 false m)
 
-abbrev pub firstLines : Settings → List (List ℕ)
-firstLines p = line (ascii "formula=") (formulaName (p .formula)) ∷ line (ascii "white=") (whiteName (p .white)) ∷ []
-
-abbrev pub linesLAndC : Settings → List (List ℕ)
-linesLAndC p = thousandthsLine (ascii "l=") (p .l) ∷ thousandthsLine (ascii "c=") (p .c) ∷ []
-
-abbrev pub lastLines : Ticket → List (List ℕ)
-lastLines t =
-    thousandthsLine (ascii "tol=") (t .settings .tolerance)
-    ∷ line (ascii "space=") (spaceName (spaceOf (t .reference)))
-    ∷ line (ascii "ref=") (readingText (t .reference))
-    ∷ line (ascii "test=") (readingText (t .test))
-    ∷ []
+-- the value in each place
+abbrev pub printed : Ticket → Place → List ℕ
+printed t Place.formula = formulaName (t .settings .formula)
+printed t Place.white = whiteName (t .settings .white)
+printed t Place.l = thousandthsText (t .settings .l)
+printed t Place.c = thousandthsText (t .settings .c)
+printed t Place.tol = thousandthsText (t .settings .tolerance)
+printed t Place.space = spaceName (spaceOf (t .reference))
+printed t Place.ref = readingText (t .reference)
+printed t Place.test = readingText (t .test)
 
 unfoldable pub printTicket : Ticket → List ℕ
-printTicket t = joined (firstLines (t .settings) ++ linesLAndC (t .settings) ++ lastLines t)
+printTicket t = textOf (printed t) allPlaces
 
 -- the same without the lines l and c
 unfoldable pub printShort : Ticket → List ℕ
-printShort t = joined (firstLines (t .settings) ++ lastLines t)
+printShort t = textOf (printed t) withoutLAndC
 
 -- ---- the tickets that have a text
 

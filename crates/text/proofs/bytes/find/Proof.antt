@@ -1,4 +1,5 @@
--- `bytes::find` meets its contract. The loop's invariant: i bytes are passed, and b stands i bytes further than in the rest. Assumes nothing.
+-- `bytes::find` meets its contract. The loop's invariant: i bytes are passed, and b stands i bytes further than in the
+-- rest. Assumes nothing.
 use Prim.Native.Nat.{ℕ, _+_, _-_, _≤_}
 use mathlib.Core.Path.{_≡_}
 use mathlib.Core.List.{List}

@@ -1,4 +1,4 @@
--- `bytes::same` meets its contract, in either branch. Assumes nothing.
+-- `bytes::same` meets its contract: texts of one length are the same where one starts with the other. Assumes nothing.
 use borrow.Author.Needs.{needs}
 use borrow.Author.Tests.{eq-eqb, ne-eqb}
 use Rattle.text.specs.Bytes.{sameBytes}

@@ -1,4 +1,5 @@
--- `bytes::starts` meets its contract. The loop's invariant: i bytes are the same, and the rest of s decides. Assumes nothing.
+-- `bytes::starts` meets its contract. The loop's invariant: i bytes are the same, and the rest of s decides.
+-- Assumes nothing.
 use Prim.Native.Nat.{ℕ, _-_, _≤_}
 use mathlib.Core.Path.{_≡_, refl, sym, _∙_}
 use mathlib.Core.List.{List}
@@ -31,7 +32,8 @@ differs c =
     let turn = compared .before .before in
     let l = turn .before in
     let a = l .before .before .args in
-    sym (l .loop .inv .goes-on ∙ starts-false (a .key .now) (a .s .now) (l .loop .i) (turn .loop-test .taken) (l .loop .inv .fits) (c .if2 .taken))
+    sym (l .loop .inv .goes-on ∙ starts-false (a .key .now) (a .s .now) (l .loop .i) (turn .loop-test .taken)
+    (l .loop .inv .fits) (c .if2 .taken))
 
 loop-again : tie.Need-loop-again Inv-loop μ-loop
 loop-again c =
@@ -39,7 +41,8 @@ loop-again c =
     let turn = compared .before .before in
     let l = turn .before in
     let a = l .before .before .args in
-    let next = starts-next (a .key .now) (a .s .now) (l .loop .i) (turn .loop-test .taken) (l .loop .inv .fits) (c .if2 .left) in
+    let next =
+    starts-next (a .key .now) (a .s .now) (l .loop .i) (turn .loop-test .taken) (l .loop .inv .fits) (c .if2 .left) in
     record { goes-on = l .loop .inv .goes-on ∙ next; within = omega arith; fits = l .loop .inv .fits }
 
 whole : tie.Need-returns-3 Inv-loop μ-loop

@@ -1,6 +1,7 @@
 -- The four pieces of the decimal are put one after the other. Assumes nothing.
 use borrow.Author.Needs.{needs}
-use Rattle.text.specs.Put.Laws.{room-for-all, room-first, room-second, room-third, room-fourth, puts-four, puts-joined}
+use Rattle.text.specs.Put.Laws.{room-for-all, room-first, room-second, room-third, room-fourth, puts-four}
+use Rattle.text.specs.Put.Laws.{puts-joined}
 use Rattle.text.specs.Decimal.{decimalPieces, decimalText}
 use Rattle.text.proofs.decimal.put_decimal.Statement.{statement}
 use Rattle.text.proofs.decimal.put_decimal.Tie as tie
@@ -46,9 +47,11 @@ returns c =
     let minus = whole .before .before .before .before in
     let start = minus .before .before .before in
     let row = room-for-all (decimalPieces (start .args .d)) (start .pre) in
-    puts-joined (puts-four row (minus .put-minus .ensures) (whole .put-whole .ensures) (point .put .ensures) (places .put-digits .ensures))
+    puts-joined (puts-four row (minus .put-minus .ensures) (whole .put-whole .ensures) (point .put .ensures)
+    (places .put-digits .ensures))
 
 pub put-decimal-spec : {M : Type 1} → statement M
 put-decimal-spec =
     tie.close
-    (tie.spec put-minus-requires put-whole-requires (λ c. search needs) put-requires (λ c. search needs) put-digits-requires (λ c. search needs) returns)
+    (tie.spec put-minus-requires put-whole-requires (λ c. search needs) put-requires (λ c. search needs)
+    put-digits-requires (λ c. search needs) returns)

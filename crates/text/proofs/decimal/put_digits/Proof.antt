@@ -40,7 +40,9 @@ module _ {d₀ d : List ℕ} {at k n left j : ℕ} (p : Digits d₀ at k n d lef
       record {
         room = p .room;
         some = omega arith;
-        done = rw (one-less, last-digits-more, p .done, p .rest, before) (put-before d₀ (at + (j - 1)) (lastDigits (k - j) n) _ free);
+        done =
+            rw (one-less, last-digits-more, p .done, p .rest, before)
+            (put-before d₀ (at + (j - 1)) (lastDigits (k - j) n) _ free);
         rest = rw (one-less, p .rest) (div-pow-more n (k - j));
         same = simp length-set (p .same);
       }

@@ -21,7 +21,8 @@ returns : tie.Need-returns
 returns c =
     let put = c .before .before in
     let counted = put .before in
-    puts-as (all-digits (counted .before .before .before .args .n) (counted .whole-len .ensures .0)) (put .put-digits .ensures)
+    puts-as (all-digits (counted .before .before .before .args .n) (counted .whole-len .ensures .0))
+    (put .put-digits .ensures)
 
 pub put-whole-spec : {M : Type 1} → statement M
 put-whole-spec = tie.close (tie.spec (λ c κs. search needs) put-digits-requires (λ c. search needs) returns)

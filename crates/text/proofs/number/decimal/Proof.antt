@@ -42,12 +42,14 @@ sum-fits c =
 no-whole : tie.Need-returns
 no-whole c =
     let at = c .before .before in
-    decimal-is _ _ _ (at .before .part-before .ensures) (at .digits .ensures) (ap numberIn (c .enum-told .given .1)) refl refl
+    decimal-is _ _ _ (at .before .part-before .ensures) (at .digits .ensures) (ap numberIn (c .enum-told .given .1))
+    refl refl
 
 no-fraction : tie.Need-returns-2
 no-fraction c =
     let read = c .before .before in
-    decimal-is _ _ _ (at-part read .part-before .ensures) (at-whole read .digits .ensures) (ap numberIn (whole read .x .given .1))
+    decimal-is _ _ _ (at-part read .part-before .ensures) (at-whole read .digits .ensures)
+    (ap numberIn (whole read .x .given .1))
     (read .fraction .ensures) (ap numberIn (c .enum-told2 .given .1))
 
 both-parts : tie.Need-returns-3
@@ -55,7 +57,8 @@ both-parts c =
     let bound = c .before .before in
     let read = bound .before .before in
     ap (λ (q : ℕ). some (whole read .x .given .0 .0 * q + bound .y .given .0 .0)) (c .power .ensures)
-    ∙ decimal-is _ _ _ (at-part read .part-before .ensures) (at-whole read .digits .ensures) (ap numberIn (whole read .x .given .1))
+    ∙ decimal-is _ _ _ (at-part read .part-before .ensures) (at-whole read .digits .ensures)
+    (ap numberIn (whole read .x .given .1))
     (read .fraction .ensures) (ap numberIn (bound .y .given .1))
 
 pub decimal-spec : {M : Type 1} → statement M

@@ -1,4 +1,5 @@
--- `number::fraction` meets its contract: its digits are few, and moved up to the last place they stay small. Assumes nothing.
+-- `number::fraction` meets its contract: its digits are few, and moved up to the last place they stay small.
+-- Assumes nothing.
 use Prim.Native.Nat.{ℕ, _*_}
 use mathlib.Core.Path.{sym, ap, _∙_}
 use mathlib.Core.Option.{some}
@@ -32,12 +33,17 @@ product-fits : tie.Need-mul-t14
 product-fits c =
     let bound = c .before .before in
     let read = bound .before .before in
-    omega (arith, moved-lt _ _ (start read .pre) (sym (read .digits .ensures) ∙ ap numberIn (bound .d .given .1)) (c .power .ensures))
+    omega (
+      arith,
+      moved-lt _ _ (start read .pre) (sym (read .digits .ensures) ∙ ap numberIn (bound .d .given .1))
+          (c .power .ensures),
+    )
 
 no-digits : tie.Need-returns
 no-digits c =
     let read = c .before .before in
-    fraction-is _ _ (at-find read .find .ensures) (at-point read .if1 .taken) (at-part read .part-after .ensures) (read .digits .ensures)
+    fraction-is _ _ (at-find read .find .ensures) (at-point read .if1 .taken) (at-part read .part-after .ensures)
+    (read .digits .ensures)
     (ap numberIn (c .enum-told .given .1))
 
 digits : tie.Need-returns-2
@@ -45,7 +51,8 @@ digits c =
     let bound = c .before .before in
     let read = bound .before .before in
     ap (λ (q : ℕ). some (bound .d .given .0 .0 * q)) (c .power .ensures)
-    ∙ fraction-is _ _ (at-find read .find .ensures) (at-point read .if1 .taken) (at-part read .part-after .ensures) (read .digits .ensures)
+    ∙ fraction-is _ _ (at-find read .find .ensures) (at-point read .if1 .taken) (at-part read .part-after .ensures)
+    (read .digits .ensures)
     (ap numberIn (bound .d .given .1))
 
 no-point : tie.Need-returns-3

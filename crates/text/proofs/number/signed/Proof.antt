@@ -21,27 +21,31 @@ below-none : tie.Need-returns
 below-none c =
     let read = c .before .before in
     let m = minus read in
-    signed-below _ (m .before .starts .ensures) (m .if1 .taken) (read .decimal .ensures) (ap numberIn (c .enum-told .given .1))
+    signed-below _ (m .before .starts .ensures) (m .if1 .taken) (read .decimal .ensures)
+    (ap numberIn (c .enum-told .given .1))
 
 below : tie.Need-returns-2
 below c =
     let bound = c .before in
     let read = bound .before .before in
     let m = minus read in
-    signed-below _ (m .before .starts .ensures) (m .if1 .taken) (read .decimal .ensures) (ap numberIn (bound .m .given .1))
+    signed-below _ (m .before .starts .ensures) (m .if1 .taken) (read .decimal .ensures)
+    (ap numberIn (bound .m .given .1))
 
 above-none : tie.Need-returns-3
 above-none c =
     let read = c .before .before in
     let no-minus = read .before in
-    signed-above _ (no-minus .before .starts .ensures) (no-minus .if1 .left) (read .decimal2 .ensures) (ap numberIn (c .enum-told2 .given .1))
+    signed-above _ (no-minus .before .starts .ensures) (no-minus .if1 .left) (read .decimal2 .ensures)
+    (ap numberIn (c .enum-told2 .given .1))
 
 above : tie.Need-returns-4
 above c =
     let bound = c .before in
     let read = bound .before .before in
     let no-minus = read .before in
-    signed-above _ (no-minus .before .starts .ensures) (no-minus .if1 .left) (read .decimal2 .ensures) (ap numberIn (bound .m2 .given .1))
+    signed-above _ (no-minus .before .starts .ensures) (no-minus .if1 .left) (read .decimal2 .ensures)
+    (ap numberIn (bound .m2 .given .1))
 
 pub signed-spec : {M : Type 1} → statement M
 signed-spec =

@@ -1,11 +1,13 @@
--- `number::value_of_digits` meets its contract. The loop's invariant: v has i digits, and the rest of s goes on from it. Assumes nothing.
+-- `number::value_of_digits` meets its contract. The loop's invariant: v has i digits, and the rest of s goes on from
+-- it. Assumes nothing.
 use Prim.Native.Nat.{ℕ, _+_, _-_, _*_, _^_, _≤_, _<_}
 use mathlib.Core.Path.{_≡_, refl, sym, ap, _∙_}
 use mathlib.Core.List.{List}
 use native.Mathlib.Omega.{arith}
 use lib.ListN.{length, drop}
 use Rattle.text.specs.Number.{numeral}
-use Rattle.text.specs.Number.Laws.{numeral-next, numeral-none-of-low, numeral-none-of-high, numeral-end, digit-more, five-digits-lt}
+use Rattle.text.specs.Number.Laws.{numeral-next, numeral-none-of-low, numeral-none-of-high, numeral-end}
+use Rattle.text.specs.Number.Laws.{digit-more, five-digits-lt}
 use Rattle.text.proofs.number.value_of_digits.Statement.{statement}
 use Rattle.text.proofs.number.value_of_digits.Tie as tie
 
@@ -33,7 +35,8 @@ low c =
     let turn = c .before .before in
     let l = turn .before in
     let a = l .before .before .args in
-    sym (l .loop .inv .goes-on ∙ numeral-none-of-low (l .loop .v) (a .s .now) (l .loop .i) (turn .loop-test .taken) (c .if1 .taken))
+    sym (l .loop .inv .goes-on ∙ numeral-none-of-low (l .loop .v) (a .s .now) (l .loop .i) (turn .loop-test .taken)
+    (c .if1 .taken))
 
 high : tie.Need-returns-2 Inv-loop μ-loop
 high c =
@@ -42,7 +45,8 @@ high c =
     let a = l .before .before .args in
     sym
     (l .loop .inv .goes-on
-    ∙ numeral-none-of-high (l .loop .v) (a .s .now) (l .loop .i) (turn not-low .loop-test .taken) (not-low .if1 .left) (c .if2 .taken))
+    ∙ numeral-none-of-high (l .loop .v) (a .s .now) (l .loop .i) (turn not-low .loop-test .taken) (not-low .if1 .left)
+    (c .if2 .taken))
 
 mul-v : tie.Need-mul-v Inv-loop μ-loop
 mul-v c =
@@ -60,9 +64,13 @@ loop-again c =
     let l = at-turn (digit .before) in
     let a = l .before .before .args in
     let d = c .wide in
-    let next = numeral-next (l .loop .v) (a .s .now) (l .loop .i) (turn (digit .before) .loop-test .taken) (digit .before .if1 .left) (digit .if2 .left) in
+    let next =
+    numeral-next (l .loop .v) (a .s .now) (l .loop .i) (turn (digit .before) .loop-test .taken)
+    (digit .before .if1 .left) (digit .if2 .left) in
     record {
-      goes-on = l .loop .inv .goes-on ∙ next ∙ ap (λ (x : ℕ). numeral (l .loop .v * 10 + x) (drop (l .loop .i + 1) (a .s .now))) (sym (d .ensures));
+      goes-on =
+          l .loop .inv .goes-on ∙ next ∙ ap
+          (λ (x : ℕ). numeral (l .loop .v * 10 + x) (drop (l .loop .i + 1) (a .s .now))) (sym (d .ensures));
       within = omega arith;
       small = digit-more (l .loop .v) (d .result) (l .loop .i) (l .loop .inv .small) (omega arith);
     }

@@ -59,7 +59,9 @@ returns c =
     let all : at-loop .j ≡ length (a .src .now) = le-antisymm (at-loop .inv .1) (c .loop-test .left) in
     record {
       end = ap (λ (k : ℕ). a .at + k) all;
-      bytes = at-loop .inv .0 ∙ ap (λ (k : ℕ). paste (a .dst .now) (a .at) (a .src .now) k) all ∙ paste-is-put (a .dst .now) (a .at) (a .src .now);
+      bytes =
+          at-loop .inv .0 ∙ ap (λ (k : ℕ). paste (a .dst .now) (a .at) (a .src .now) k) all
+          ∙ paste-is-put (a .dst .now) (a .at) (a .src .now);
     }
 
 pub put-spec : {M : Type 1} → statement M

@@ -16,7 +16,8 @@ wrong c =
     let read = c .before .before in
     let at-value = read .before in
     let given = at-value .before .before in
-    due-read _ _ _ _ _ thousandths-of-nil (at-value .value .ensures) (read .thousandths .ensures) (ap numberIn (c .enum-told .given .1)) refl refl
+    due-read _ _ _ _ _ thousandths-of-nil (at-value .value .ensures) (read .thousandths .ensures)
+    (ap numberIn (c .enum-told .given .1)) refl refl
     ∙ factors-given _ _ _ (given .before .starts .ensures) (given .if1 .left)
 
 right : tie.Need-returns-3
@@ -26,7 +27,8 @@ right c =
     let read = bound .before .before in
     let at-value = read .before in
     let given = at-value .before .before in
-    due-read _ _ _ _ _ thousandths-of-nil (at-value .value .ensures) (read .thousandths .ensures) (ap numberIn (bound .x .given .1))
+    due-read _ _ _ _ _ thousandths-of-nil (at-value .value .ensures) (read .thousandths .ensures)
+    (ap numberIn (bound .x .given .1))
     (rest .part-after .ensures) (c .c-line .ensures)
     ∙ factors-given _ _ _ (given .before .starts .ensures) (given .if1 .left)
 

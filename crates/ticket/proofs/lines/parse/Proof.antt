@@ -13,7 +13,8 @@ wrong c =
     let read = c .before .before in
     let at-value = read .before in
     let short = at-value .before .before in
-    due-read _ _ _ _ _ formula-of-nil (at-value .value .ensures) (read .formula-named .ensures) (ap formulaIn (c .enum-told .given .1)) refl refl
+    due-read _ _ _ _ _ formula-of-nil (at-value .value .ensures) (read .formula-named .ensures)
+    (ap formulaIn (c .enum-told .given .1)) refl refl
     ∙ ticket-of-short _ (short .if1 .left)
 
 right : tie.Need-returns-3
@@ -23,7 +24,8 @@ right c =
     let read = bound .before .before in
     let at-value = read .before in
     let short = at-value .before .before in
-    due-read _ _ _ _ _ formula-of-nil (at-value .value .ensures) (read .formula-named .ensures) (ap formulaIn (bound .x .given .1))
+    due-read _ _ _ _ _ formula-of-nil (at-value .value .ensures) (read .formula-named .ensures)
+    (ap formulaIn (bound .x .given .1))
     (rest .part-after .ensures) (c .white-line .ensures)
     ∙ ticket-of-short _ (short .if1 .left)
 

@@ -10,7 +10,8 @@ wrong : tie.Need-returns
 unfolding refLine
 wrong c =
     let read = c .before .before in
-    due-read _ _ _ _ _ (reading-of-nil _) (read .before .value .ensures) (read .reading-of .ensures) (ap readingIn (c .enum-told .given .1)) refl refl
+    due-read _ _ _ _ _ (reading-of-nil _) (read .before .value .ensures) (read .reading-of .ensures)
+    (ap readingIn (c .enum-told .given .1)) refl refl
 
 right : tie.Need-returns-2
 unfolding refLine
@@ -18,7 +19,8 @@ right c =
     let rest = c .before in
     let bound = rest .before .before in
     let read = bound .before .before in
-    due-read _ _ _ _ _ (reading-of-nil _) (read .before .value .ensures) (read .reading-of .ensures) (ap readingIn (bound .x .given .1))
+    due-read _ _ _ _ _ (reading-of-nil _) (read .before .value .ensures) (read .reading-of .ensures)
+    (ap readingIn (bound .x .given .1))
     (rest .part-after .ensures) (c .test-line .ensures)
 
 pub ref-line-spec : {M : Type 1} → statement M

@@ -10,7 +10,8 @@ wrong : tie.Need-returns
 unfolding spaceLine
 wrong c =
     let read = c .before .before in
-    due-read _ _ _ _ _ space-of-nil (read .before .value .ensures) (read .space-named .ensures) (ap spaceIn (c .enum-told .given .1)) refl refl
+    due-read _ _ _ _ _ space-of-nil (read .before .value .ensures) (read .space-named .ensures)
+    (ap spaceIn (c .enum-told .given .1)) refl refl
 
 right : tie.Need-returns-2
 unfolding spaceLine
@@ -18,7 +19,8 @@ right c =
     let rest = c .before in
     let bound = rest .before .before in
     let read = bound .before .before in
-    due-read _ _ _ _ _ space-of-nil (read .before .value .ensures) (read .space-named .ensures) (ap spaceIn (bound .x .given .1))
+    due-read _ _ _ _ _ space-of-nil (read .before .value .ensures) (read .space-named .ensures)
+    (ap spaceIn (bound .x .given .1))
     (rest .part-after .ensures) (c .ref-line .ensures)
 
 pub space-line-spec : {M : Type 1} → statement M

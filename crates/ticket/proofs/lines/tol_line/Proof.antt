@@ -11,7 +11,8 @@ wrong : tie.Need-returns
 unfolding tolLine
 wrong c =
     let read = c .before .before in
-    due-read _ _ _ _ _ thousandths-of-nil (read .before .value .ensures) (read .thousandths .ensures) (ap numberIn (c .enum-told .given .1)) refl refl
+    due-read _ _ _ _ _ thousandths-of-nil (read .before .value .ensures) (read .thousandths .ensures)
+    (ap numberIn (c .enum-told .given .1)) refl refl
 
 right : tie.Need-returns-2
 unfolding tolLine
@@ -19,7 +20,8 @@ right c =
     let rest = c .before in
     let bound = rest .before .before in
     let read = bound .before .before in
-    due-read _ _ _ _ _ thousandths-of-nil (read .before .value .ensures) (read .thousandths .ensures) (ap numberIn (bound .x .given .1))
+    due-read _ _ _ _ _ thousandths-of-nil (read .before .value .ensures) (read .thousandths .ensures)
+    (ap numberIn (bound .x .given .1))
     (rest .part-after .ensures) (c .space-line .ensures)
 
 pub tol-line-spec : {M : Type 1} → statement M

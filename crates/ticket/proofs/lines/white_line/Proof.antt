@@ -10,7 +10,8 @@ wrong : tie.Need-returns
 unfolding whiteLine
 wrong c =
     let read = c .before .before in
-    due-read _ _ _ _ _ white-of-nil (read .before .value .ensures) (read .white-named .ensures) (ap whiteIn (c .enum-told .given .1)) refl refl
+    due-read _ _ _ _ _ white-of-nil (read .before .value .ensures) (read .white-named .ensures)
+    (ap whiteIn (c .enum-told .given .1)) refl refl
 
 right : tie.Need-returns-2
 unfolding whiteLine
@@ -18,7 +19,8 @@ right c =
     let rest = c .before in
     let bound = rest .before .before in
     let read = bound .before .before in
-    due-read _ _ _ _ _ white-of-nil (read .before .value .ensures) (read .white-named .ensures) (ap whiteIn (bound .x .given .1))
+    due-read _ _ _ _ _ white-of-nil (read .before .value .ensures) (read .white-named .ensures)
+    (ap whiteIn (bound .x .given .1))
     (rest .part-after .ensures) (c .factor-lines .ensures)
 
 pub white-line-spec : {M : Type 1} → statement M

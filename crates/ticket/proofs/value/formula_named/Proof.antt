@@ -34,7 +34,9 @@ cmc : tie.Need-returns-3
 cmc c = named-first _ _ _ _ (c .before .same3 .ensures) (c .if3 .taken) ∙ not-second (c .before .before .before)
 
 no-name : tie.Need-returns-4
-no-name c = named-none _ _ ∙ named-other _ _ _ _ (c .before .same3 .ensures) (c .if3 .left) ∙ not-second (c .before .before .before)
+no-name c =
+    named-none _ _ ∙ named-other _ _ _ _ (c .before .same3 .ensures) (c .if3 .left)
+    ∙ not-second (c .before .before .before)
 
 pub formula-named-spec : {M : Type 1} → statement M
 formula-named-spec =

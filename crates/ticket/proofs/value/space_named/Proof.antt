@@ -23,7 +23,9 @@ lab : tie.Need-returns-2
 lab c = named-first _ _ _ _ (c .before .same2 .ensures) (c .if2 .taken) ∙ not-first (c .before .before .before)
 
 no-name : tie.Need-returns-3
-no-name c = named-none _ _ ∙ named-other _ _ _ _ (c .before .same2 .ensures) (c .if2 .left) ∙ not-first (c .before .before .before)
+no-name c =
+    named-none _ _ ∙ named-other _ _ _ _ (c .before .same2 .ensures) (c .if2 .left)
+    ∙ not-first (c .before .before .before)
 
 pub space-named-spec : {M : Type 1} → statement M
 space-named-spec =

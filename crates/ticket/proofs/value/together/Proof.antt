@@ -11,7 +11,8 @@ use Rattle.ticket.proofs.value.together.Statement.{statement}
 use Rattle.ticket.proofs.value.together.Tie as tie
 
 all-three :
-    (space : Space) {p q r : Option Decimal} {x y z : Decimal} {w : Written} → p ≡ some x → q ≡ some y → r ≡ some z → w ≡ inSpace space x y z
+    (space : Space) {p q r : Option Decimal} {x y z : Decimal} {w : Written}
+    → p ≡ some x → q ≡ some y → r ≡ some z → w ≡ inSpace space x y z
     → some w ≡ three (inSpace space) p q r
 all-three space ep eq er ew = rw (ep, eq, er, ew)
 
@@ -22,7 +23,8 @@ read c =
     let y = second .before in
     let first = y .before .before in
     let x = first .before in
-    all-three _ (ap signedIn (x .p .given .1)) (ap signedIn (y .q .given .1)) (ap signedIn (z .r .given .1)) (c .in-space .ensures)
+    all-three _ (ap signedIn (x .p .given .1)) (ap signedIn (y .q .given .1)) (ap signedIn (z .r .given .1))
+    (c .in-space .ensures)
 
 pub together-spec : {M : Type 1} → statement M
 together-spec =

@@ -44,7 +44,9 @@ c-2 : tie.Need-returns-4
 c-2 c = named-first _ _ _ _ (c .before .same4 .ensures) (c .if4 .taken) ∙ not-third (c .before .before .before)
 
 no-name : tie.Need-returns-5
-no-name c = named-none _ _ ∙ named-other _ _ _ _ (c .before .same4 .ensures) (c .if4 .left) ∙ not-third (c .before .before .before)
+no-name c =
+    named-none _ _ ∙ named-other _ _ _ _ (c .before .same4 .ensures) (c .if4 .left)
+    ∙ not-third (c .before .before .before)
 
 pub white-named-spec : {M : Type 1} → statement M
 white-named-spec =

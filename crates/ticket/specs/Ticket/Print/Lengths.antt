@@ -1,14 +1,14 @@
 -- A printed ticket is short, far below the 4,096 bytes that a text may have. Assumes nothing.
 use Prim.Native.Nat.{ℕ, _+_, _≤_}
 use mathlib.Core.Bool.{Bool, true, false}
-use mathlib.Core.List.{List, [], _++_}
+use mathlib.Core.List.{List, [], _∷_, _++_}
 use lib.ListN.{length, length-append}
 use native.Mathlib.Omega.{arith}
 use Rattle.text.specs.Ascii.{ascii}
-use Rattle.text.specs.Decimal.{minusSign, decimalText}
+use Rattle.text.specs.Decimal.{minusSign, decimalText, withPlaces}
 use Rattle.text.specs.Decimal.Laws.{width-few, decimal-length}
 use Rattle.text.specs.Names.{formulaName, whiteName}
-use Rattle.text.specs.Put.{joined, line}
+use Rattle.text.specs.Put.{line}
 use Rattle.text.specs.Put.Laws.{line-length}
 use Rattle.text.specs.declared.decimal.Shown.{Shown}
 use Rattle.reading.specs.declared.decimal.Decimal.{Decimal}
@@ -18,8 +18,9 @@ use Rattle.colour.specs.declared.white.White.{White}
 use Rattle.colour.specs.declared.white.White.the-variants.{D65Ten, D65Two, CTen, CTwo}
 use Rattle.sheet.specs.declared.formula.Formula.{Formula}
 use Rattle.sheet.specs.declared.formula.Formula.the-variants.{CIELAB, CIE94, CMC}
-use Rattle.ticket.specs.Ticket.{spaceName}
-use Rattle.ticket.specs.Ticket.Print.{number, triple, readingText, spaceOf, firstLines, linesLAndC, lastLines, printTicket, printShort}
+use Rattle.ticket.specs.Ticket.{spaceName, spaceOf}
+use Rattle.ticket.specs.Ticket.Grammar.{Place, textOf}
+use Rattle.ticket.specs.Ticket.Print.{number, triple, readingText, printed, printTicket, printShort}
 use Rattle.ticket.specs.declared.lines.Ticket.{Ticket}
 use Rattle.ticket.specs.declared.value.Space.{Space}
 use Rattle.ticket.specs.declared.value.Space.the-variants.{Xyz, Lab}
@@ -60,30 +61,38 @@ space-le Xyz = record { le = omega arith }
 space-le Lab = record { le = omega arith }
 
 -- a line, and what follows it
-line-le : (key : List ℕ) {v rest : List ℕ} {a b : ℕ} → AtMost a v → AtMost b rest → AtMost (length key + a + 1 + b) (line key v ++ rest)
+line-le :
+    (key : List ℕ) {v rest : List ℕ} {a b : ℕ} → AtMost a v → AtMost b rest
+    → AtMost (length key + a + 1 + b) (line key v ++ rest)
 line-le key {v} {rest} h k = record { le = omega (arith, length-append (line key v) rest, line-length key v) }
 
 nil-le : AtMost 0 []
 nil-le = record { le = omega arith }
 
 module _ (t : Ticket) where
-  last-le : AtMost 230 (joined (lastLines t))
+  last-le : AtMost 230 (textOf (printed t) (Place.tol ∷ Place.space ∷ Place.ref ∷ Place.test ∷ []))
   last-le =
       line-le (ascii "tol=") (decimal-le _)
       (line-le (ascii "space=") (space-le (spaceOf (t .reference)))
       (line-le (ascii "ref=") (reading-le (t .reference)) (line-le (ascii "test=") (reading-le (t .test)) nil-le)))
 
-  first-le : (rest : List (List ℕ)) → AtMost 288 (joined rest) → length (joined (firstLines (t .settings) ++ rest)) ≤ 4096
-  first-le rest h =
-      let k = line-le (ascii "formula=") (formula-le (t .settings .formula)) (line-le (ascii "white=") (white-le (t .settings .white)) h) in
-      omega (arith, k .le)
+  abbrev firstTwo : List ℕ → List ℕ
+  firstTwo r =
+      line (ascii "formula=") (formulaName (t .settings .formula))
+      ++ (line (ascii "white=") (whiteName (t .settings .white)) ++ r)
+
+  first-le : {r : List ℕ} {n : ℕ} → AtMost n r → AtMost (28 + n) (firstTwo r)
+  first-le h =
+      let k = line-le (ascii "white=") (white-le (t .settings .white)) h in
+      record { le = omega (arith, line-le (ascii "formula=") (formula-le (t .settings .formula)) k .le) }
 
   pub print-le : length (printTicket t) ≤ 4096
   unfolding printTicket
   print-le =
-      first-le (linesLAndC (t .settings) ++ lastLines t)
-      (line-le (ascii "l=") (decimal-le _) (line-le (ascii "c=") (decimal-le _) last-le))
+      let c = decimal-le (withPlaces 3 false (t .settings .c)) in
+      let l = decimal-le (withPlaces 3 false (t .settings .l)) in
+      omega (arith, first-le (line-le (ascii "l=") l (line-le (ascii "c=") c last-le)) .le)
 
   pub print-short-le : length (printShort t) ≤ 4096
   unfolding printShort
-  print-short-le = first-le (lastLines t) (record { le = omega (arith, last-le .le) })
+  print-short-le = omega (arith, first-le last-le .le)
