@@ -1,4 +1,5 @@
--- A `let .. else` on `Units::Of` says of what it turns away that its variant is the second or the third: it has no units. Assumes nothing.
+-- A `let .. else` on `Units::Of` says of what it turns away that its variant is the second or the third: it has no
+-- units. Assumes nothing.
 use mathlib.Core.Path.{_≡_}
 use mathlib.Core.Logic.{_⊎_, inl, inr}
 use native.Mathlib.Omega.{arith}

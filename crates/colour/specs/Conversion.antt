@@ -1,6 +1,7 @@
--- 01-scope.md, "From X, Y, Z to the grid", at n binary places: 2 ^ n stands for 2 ^ 20 and 2 ^ 3n for 2 ^ 60, and n is 20 in the program.
--- X, Y, Z and the white are in millionths; what comes out is in units of 2 ^ -n. The cut and the constants below it are an edition's.
--- Definitions only: `Conversion/Laws.antt` has what callers go by. Assumes nothing.
+-- docs/SCOPE.md 5, from X, Y, Z to the grid, at n binary places: 2 ^ n stands for 2 ^ 20 and 2 ^ 3n for 2 ^ 60, and n
+-- is 20 in the program. X, Y, Z and the white are in millionths; what comes out is in units of 2 ^ -n. The cut and the
+-- constants below it are an edition's. Definitions only: `Conversion/Laws.antt` has what callers go by.
+-- Assumes nothing.
 use mathlib.Core.Bool.{Bool, cond, _&&_}
 use Prim.Native.Nat.{ℕ, _+_, _-_, _*_, _/_, _^_}
 use lib.Dec.{ltb}
@@ -49,7 +50,8 @@ aboveCut e x w = ltb (e .cut .over * w) (x * e .cut .under)
 unfoldable pub fHigh : (n x w : ℕ) → ℕ
 fHigh n x w = rootOf 3 (x * 2 ^ (3 * n) / w)
 
--- f up to the cut: 2 ^ n times (slope q + 16/116), rounded down once. With p / d for slope q that is (116 p + 16 d) / (116 d)
+-- f up to the cut: 2 ^ n times (slope q + 16/116), rounded down once. With p / d for slope q that is
+-- (116 p + 16 d) / (116 d)
 unfoldable pub fLow : (n : ℕ) → Edition → (x w : ℕ) → ℕ
 fLow n e x w =
     let p : ℕ = e .slope .over * x in
@@ -76,7 +78,9 @@ convert n e white c =
 
 -- L*, a* and b* lie in their ranges
 unfoldable pub onGrid : GridColour → Bool
-onGrid c = isWithin (rangeOf Lightness) (c .L .0) && isWithin (rangeOf Opponent) (c .a .0) && isWithin (rangeOf Opponent) (c .b .0)
+onGrid c =
+    isWithin (rangeOf Lightness) (c .L .0) && isWithin (rangeOf Opponent) (c .a .0)
+    && isWithin (rangeOf Opponent) (c .b .0)
 
 -- at 20 places a colour is one of the grid
 abbrev pub gridColour : Lab → GridColour

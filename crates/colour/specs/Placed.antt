@@ -1,4 +1,5 @@
--- A reading's place on the grid, or its refusal's number. Definitions only: `Placed/Laws.antt` has what callers go by. Assumes nothing.
+-- docs/SCOPE.md 3, 8.2: a reading's place on the grid, or its refusal's number. Definitions only: `Placed/Laws.antt`
+-- has what callers go by. Assumes nothing.
 use mathlib.Core.Bool.{Bool, true, false, _&&_, _||_, cond}
 use Prim.Native.Nat.{ℕ}
 use lib.IntN.{ℤ}
@@ -22,8 +23,10 @@ use Rattle.colour.specs.Conversion.{bs6923, convert, gridColour}
 pub mod Ranges
 pub mod Ways
 pub mod Laws
+pub mod Same
+pub mod Exactly
 
--- 01's number of the refusal, 0 for none
+-- its refusal's number, 0 for none
 abbrev pub refusalOf : Placed → ℕ
 refusalOf (At c) = 0
 refusalOf (Refused n) = n

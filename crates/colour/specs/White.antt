@@ -1,4 +1,4 @@
--- 01-scope.md, "Whites": document 000, Table 1. Assumes nothing.
+-- docs/SCOPE.md 4, whites: BS 6923, Table 1. Assumes nothing.
 use mathlib.Core.Path.{_≡_, refl}
 use mathlib.Core.Bool.{cond}
 use Prim.Native.Nat.{ℕ, _*_}
@@ -20,7 +20,7 @@ whiteOf D65Two = thousandths 95047 100000 108883
 whiteOf CTen = thousandths 97285 100000 116145
 whiteOf CTwo = thousandths 98074 100000 118232
 
--- 01's numbers
+-- by which a load names them
 abbrev pub numberOfWhite : White → ℕ
 numberOfWhite D65Ten = 1
 numberOfWhite D65Two = 2
@@ -29,7 +29,9 @@ numberOfWhite CTwo = 4
 
 -- the white of a number, if there is one
 unfoldable pub whiteNumbered : ℕ → Numbered
-whiteNumbered n = cond (eqb n 1) (Is D65Ten) (cond (eqb n 2) (Is D65Two) (cond (eqb n 3) (Is CTen) (cond (eqb n 4) (Is CTwo) Unknown)))
+whiteNumbered n =
+    cond (eqb n 1) (Is D65Ten)
+    (cond (eqb n 2) (Is D65Two) (cond (eqb n 3) (Is CTen) (cond (eqb n 4) (Is CTwo) Unknown)))
 
 pub numbered-back : (w : White) → whiteNumbered (numberOfWhite w) ≡ Is w
 unfolding whiteNumbered

@@ -1,4 +1,4 @@
-// From X, Y, Z to the grid by the constants of BS 6923: the lines of specs/Conversion.antt at 20 places.
+// SCOPE 5, from X, Y, Z to the grid by the constants of BS 6923: the lines of specs/Conversion.antt at 20 places.
 use crate::white::TristimulusValues;
 use reading::grid::Grid;
 use rounding::fraction::fraction;
@@ -7,7 +7,8 @@ use rounding::signed::less;
 use rounding::signed::product;
 ghost use mathlib.Core.Path.{_≡_};
 ghost use lib.IntN.{pos, _-ℤ_, _*ℤ_};
-ghost use Rattle.colour.specs.Conversion.{bs6923, aboveCut, fHigh, fLow, f, lightness, convert, gridColour, onGrid};
+ghost use Rattle.colour.specs.Conversion.{bs6923, aboveCut, fHigh, fLow, f, lightness, convert, gridColour};
+ghost use Rattle.colour.specs.Conversion.{onGrid};
 ghost use Rattle.colour.specs.Conversion.Ranges.{Against, Lit, Measured, Opposed};
 
 // A colour in units of the grid.
@@ -58,7 +59,6 @@ fn f_low(x: u64, w: u64) -> u64
     fraction(p * 116 + d * 16, d * 116, 20)
 }
 
-// f.
 fn f_of(x: u64, w: u64) -> u64
     requires { ⌜ Against x w ⌝ }
     ensures { λ r. ⌜ r ≡ f 20 bs6923 x w ⌝ }
@@ -80,7 +80,7 @@ fn lightness_of(y: u64, w: u64, fy: u64) -> u64
     fraction(9033 * y, 10 * w, 20)
 }
 
-// k (p - q), for a* and b*.
+// a* or b*: k is 500 or 200.
 fn opponent_of(k: i64, p: u64, q: u64) -> i64
     requires { ⌜ Opposed k p q ⌝ }
     ensures { λ r. ⌜ r ≡ k *ℤ (pos p -ℤ pos q) ⌝ }

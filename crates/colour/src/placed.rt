@@ -12,7 +12,8 @@ use reading::quantity::Quantity;
 use reading::quantity::Units;
 use rounding::signed::magnitude;
 ghost use mathlib.Core.Path.{_≡_};
-ghost use Rattle.colour.specs.Placed.{isNotFinite, fault, take, accepted, converted, placeXyz, placeLab, place, placeWritten};
+ghost use Rattle.colour.specs.Placed.{isNotFinite, fault, take, accepted, converted, placeXyz, placeLab, place};
+ghost use Rattle.colour.specs.Placed.{placeWritten};
 ghost use Rattle.colour.specs.Placed.Ranges.{Millionths, XyzWithin};
 
 // Tristimulus values, or coordinates L*, a*, b*.

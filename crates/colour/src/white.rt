@@ -53,7 +53,7 @@ impl White {
         }
     }
 
-    // 01's number of the white.
+    // By which a load names the white.
     pub fn number(self) -> u32
         ensures { λ r. ⌜ r ≡ numberOfWhite self ⌝ }
     {

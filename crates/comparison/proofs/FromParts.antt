@@ -10,7 +10,8 @@ use Rattle.sheet.specs.declared.formula.Formula.{Formula}
 use Rattle.sheet.specs.declared.scaled.Scaled.{Scaled}
 use Rattle.sheet.specs.declared.semi_axes.SemiAxes.{SemiAxes}
 use Rattle.sheet.specs.declared.shift.Shift.{Shift}
-use Rattle.sheet.specs.Sheet.{chromaOf, semiAxes, shift, factorUnder, differences, sheet, differenceOn, crossOf, dotOf, comparison}
+use Rattle.sheet.specs.Sheet.{chromaOf, semiAxes, shift, factorUnder, differences, sheet, differenceOn, crossOf, dotOf}
+use Rattle.sheet.specs.Sheet.{comparison}
 
 module _ (f : Formula) (l c : ℕ) (R T : GridColour) where
   -- the sheet from its parts
@@ -34,6 +35,7 @@ module _ (f : Formula) (l c : ℕ) (R T : GridColour) where
       y ≡ dotOf R T →
       d ≡ sheet 20 f l c R T →
       e ≡ differenceOn f (d .DE) →
-      _≡_ {A = Comparison} (record { C = C; shift = z; cross = x; dot = y; differences = d; scaled = e }) (comparison 20 f l c R T)
+      _≡_ {A = Comparison} (record { C = C; shift = z; cross = x; dot = y; differences = d; scaled = e })
+      (comparison 20 f l c R T)
   unfolding comparison
   comparison-is hC hz hx hy hd he = rw (hC, hz, hx, hy, he, hd)

@@ -30,7 +30,6 @@ fn component_h(s: u64, z: i64) -> i64
     quotient(Grid::UNITS_IN_ONE, z, s)
 }
 
-// DE.
 fn total_of(dl: i64, dc: i64, dh: i64) -> u64
     requires { ⌜ Components dl dc dh ⌝ }
     ensures { λ r. ⌜ r ≡ total dl dc dh ⌝ }
@@ -39,7 +38,6 @@ fn total_of(dl: i64, dc: i64, dh: i64) -> u64
     square_root(squares(dl, dc) + m * m)
 }
 
-// Line 8.
 pub(crate) fn differences_of(l: u64, c: u64, s: SemiAxes, z: Shift) -> Differences
     requires { ⌜ (Factor l) × (Factor c) × (SemiAxesInRange s) × (Moved z) ⌝ }
     ensures { λ d. ⌜ d ≡ differences 20 l c s z ⌝ }

@@ -18,7 +18,6 @@ ghost use Rattle.sheet.specs.Ranges.{Four};
 ghost use Rattle.sheet.specs.Sheet.{distance², change, crossOf, dotOf, hueChange, shift};
 ghost use Rattle.comparison.specs.Ranges.{AtHand};
 
-// Test minus reference.
 fn change_of(r: u64, t: u64) -> i64
     requires { ⌜ (r < 2 ^ 60) × (t < 2 ^ 60) ⌝ }
     ensures { λ z. ⌜ z ≡ change r t ⌝ }
@@ -26,7 +25,7 @@ fn change_of(r: u64, t: u64) -> i64
     less(t as i64, r as i64)
 }
 
-// D².
+// D², exact: both squares and their sum fit 64 bits.
 fn distance_squared(ar: i64, br: i64, at: i64, bt: i64) -> u64
     requires { ⌜ Four (2 ^ 28) ar br at bt ⌝ }
     ensures { λ r. ⌜ r ≡ distance² ar br at bt ⌝ }
@@ -76,7 +75,6 @@ pub(crate) fn shift_with(r: GridColour, cr: u64, t: GridColour, ct: u64, x: i64,
     shift_by(lr, lt, cr, ct, d2, x, y)
 }
 
-// The cross of two colours.
 pub(crate) fn cross_of(r: GridColour, t: GridColour) -> i64
     requires { ⌜ (OnGrid r) × (OnGrid t) ⌝ }
     ensures { λ z. ⌜ z ≡ crossOf r t ⌝ }
@@ -84,7 +82,6 @@ pub(crate) fn cross_of(r: GridColour, t: GridColour) -> i64
     less_products(r.a.0, t.b.0, t.a.0, r.b.0)
 }
 
-// The dot of two colours.
 pub(crate) fn dot_of(r: GridColour, t: GridColour) -> i64
     requires { ⌜ (OnGrid r) × (OnGrid t) ⌝ }
     ensures { λ z. ⌜ z ≡ dotOf r t ⌝ }

@@ -1,5 +1,6 @@
--- 01-scope.md, "Names": how the test specimen differs from the reference, in words. The hue's name is the rule of turning itself; `Names/Laws.antt`
--- shows that the signs of a and b tell which axis is met, and that it is always just one. Assumes nothing.
+-- docs/SCOPE.md 7: how the test specimen differs from the reference, in words. The hue's name is the rule of turning
+-- itself; `Names/Laws.antt` shows that the signs of a and b tell which axis is met, and that it is always just one.
+-- Assumes nothing.
 use mathlib.Core.Bool.{Bool, true, false, not, cond, _&&_}
 use Prim.Native.Nat.{_+_, _*_, _^_}
 use lib.Dec.{leb}
@@ -20,7 +21,8 @@ pub mod Laws
 -- by the sign of ΔL
 abbrev pub lightnessName : (ΔL : ℤ) → Lightness.Lightness
 lightnessName ΔL =
-    cond (minus ΔL) Lightness.the-variants.Darker (cond (ltZ (pos 0) ΔL) Lightness.the-variants.Lighter Lightness.the-variants.Equal)
+    cond (minus ΔL) Lightness.the-variants.Darker
+    (cond (ltZ (pos 0) ΔL) Lightness.the-variants.Lighter Lightness.the-variants.Equal)
 
 -- by the sign of ΔC
 abbrev pub chromaName : (ΔC : ℤ) → Chroma.Chroma
@@ -40,23 +42,29 @@ direction Yellower = record { a = pos 0; b = pos 1 }
 direction Greener = record { a = negℤ (pos 1); b = pos 0 }
 direction Bluer = record { a = pos 0; b = negℤ (pos 1) }
 
--- turning from (a, b), the axis is met after more than 0 and at most 90 degrees: the cross with it has the turn's sign, and the dot is not negative.
--- The axis that (a, b) stands on has the cross 0, and is not met
+-- turning from (a, b), the axis is met after more than 0 and at most 90 degrees: the cross with it has the turn's sign,
+-- and the dot is not negative. The axis that (a, b) stands on has the cross 0, and is not met
 unfoldable pub met : (clockwise : Bool) (a b : ℤ) → Axis → Bool
-met false a b axis = ltZ (pos 0) (cross a b (direction axis .a) (direction axis .b)) && not (minus (dot a b (direction axis .a) (direction axis .b)))
-met true a b axis = minus (cross a b (direction axis .a) (direction axis .b)) && not (minus (dot a b (direction axis .a) (direction axis .b)))
+met false a b axis =
+    ltZ (pos 0) (cross a b (direction axis .a) (direction axis .b))
+    && not (minus (dot a b (direction axis .a) (direction axis .b)))
+met true a b axis =
+    minus (cross a b (direction axis .a) (direction axis .b))
+    && not (minus (dot a b (direction axis .a) (direction axis .b)))
 
--- the axes are a quarter turn apart, so from any (a, b) but (0, 0) just one is met within the first quarter: it is the first of all
+-- the axes are a quarter turn apart, so from any (a, b) but (0, 0) just one is met within the first quarter: it is the
+-- first of all
 unfoldable pub firstMet : (clockwise : Bool) (a b : ℤ) → Axis
 firstMet clockwise a b =
-    cond (met clockwise a b Redder) Redder (cond (met clockwise a b Greener) Greener (cond (met clockwise a b Bluer) Bluer Yellower))
+    cond (met clockwise a b Redder) Redder
+    (cond (met clockwise a b Greener) Greener (cond (met clockwise a b Bluer) Bluer Yellower))
 
 -- the next is the first that a turn from that axis meets
 abbrev pub nextMet : (clockwise : Bool) → Axis → Axis
 nextMet clockwise axis = firstMet clockwise (direction axis .a) (direction axis .b)
 
--- by the cross and the dot: equal in the same hue; otherwise turn from the reference's (a, b), anticlockwise for plus and clockwise for minus.
--- The first axis met gives the name, the next the bracket
+-- by the cross and the dot: equal in the same hue; otherwise turn from the reference's (a, b), anticlockwise for plus
+-- and clockwise for minus. The first axis met gives the name, the next the bracket
 unfoldable pub hueNamed : (cross dot a b : ℤ) → Hue.Hue
 hueNamed cross dot a b =
     let first : Axis = firstMet (minus cross) a b in

@@ -1,4 +1,4 @@
-// "Names" of 01: how the test specimen differs from the reference, in words.
+// SCOPE 7: how the test specimen differs from the reference, in words.
 use colour::conversion::GridColour;
 use reading::grid::Grid;
 use rounding::signed::magnitude;

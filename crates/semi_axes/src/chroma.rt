@@ -9,7 +9,6 @@ ghost use Rattle.colour.specs.Conversion.Ranges.{OnGrid};
 ghost use Rattle.sheet.specs.Ranges.{Both};
 ghost use Rattle.sheet.specs.Sheet.{chroma, chromaOf};
 
-// C of a, b.
 pub(crate) fn chroma_at(a: i64, b: i64) -> u64
     requires { ⌜ Both (2 ^ 28) a b ⌝ }
     ensures { λ r. ⌜ r ≡ chroma a b ⌝ }
@@ -17,7 +16,6 @@ pub(crate) fn chroma_at(a: i64, b: i64) -> u64
     square_root(squares(a, b))
 }
 
-// C of a colour.
 pub fn chroma_of(c: GridColour) -> u64
     requires { ⌜ OnGrid c ⌝ }
     ensures { λ r. ⌜ r ≡ chromaOf (atPlaces 20 c) ⌝ }

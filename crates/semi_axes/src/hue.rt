@@ -15,7 +15,7 @@ ghost use Rattle.semi_axes.specs.Ranges.{HueOf, Chromatic, HueParts, Hue
 // One in the units of Q and W, of which 2^13 make it.
 const COARSE_ONE: u64 = Grid::UNITS_IN_ONE / 128;
 
-// Q.
+// Line 5: Q, in units of 2^-13.
 fn hue_q(a: i64, b: i64) -> u64
     requires { ⌜ Both (2 ^ 28) a b ⌝ }
     ensures { λ r. ⌜ r ≡ hueQ 20 a b ⌝ }
@@ -23,7 +23,7 @@ fn hue_q(a: i64, b: i64) -> u64
     squares(a, b) / (128 * Grid::UNITS_IN_ONE)
 }
 
-// W.
+// Line 5: W, in the same units, in which 1900 and the square of Q fit 64 bits together.
 fn hue_w(q: u64) -> u64
     requires { ⌜ q ≤ 2 ^ 30 ⌝ }
     ensures { λ r. ⌜ r ≡ hueW 20 q ⌝ }
@@ -31,7 +31,7 @@ fn hue_w(q: u64) -> u64
     square_root(q * q + 1900 * (COARSE_ONE * COARSE_ONE))
 }
 
-// F.
+// Line 5: F, in grid units again.
 fn hue_f(q: u64, w: u64) -> u64
     requires { ⌜ (q ≤ 2 ^ 30) × (0 < w) ⌝ }
     ensures { λ r. ⌜ r ≡ hueF 20 q w ⌝ }
@@ -47,7 +47,7 @@ fn second_form(a: i64, b: i64) -> bool
     plus_products(27563736, a, 96126170, b) < 0 || plus_products(25881905, a, 96592583, b) < 0
 }
 
-// The magnitude in T, in units of 10^-8.
+// Line 6: the magnitude in T, in units of 10^-8.
 fn hue_m(second: bool, a: i64, b: i64) -> u64
     requires { ⌜ Both (2 ^ 28) a b ⌝ }
     ensures { λ r. ⌜ r ≡ hueM second a b ⌝ }
@@ -58,7 +58,7 @@ fn hue_m(second: bool, a: i64, b: i64) -> u64
     magnitude(less_products(81915204, a, 57357644, b))
 }
 
-// T.
+// Line 6: T. Its numerator at 20 places does not fit 64 bits, so the places come by long division.
 fn hue_t(second: bool, m: u64, c: u64) -> u64
     requires { ⌜ HueOf m c ⌝ }
     ensures { λ r. ⌜ r ≡ hueT 20 second m c ⌝ }
@@ -69,7 +69,7 @@ fn hue_t(second: bool, m: u64, c: u64) -> u64
     fraction(360000000 * c + 4 * m, 1000000000 * c, 20)
 }
 
-// SH, by P and G.
+// Line 7: P and G on the way to SH.
 fn semi_axis_h(sc: u64, f: u64, t: u64) -> u64
     requires { ⌜ HueParts sc f t ⌝ }
     ensures { λ r. ⌜ r ≡ semiAxisH 20 sc (hueG 20 (hueP 20 f t) f) ⌝ }
@@ -79,7 +79,7 @@ fn semi_axis_h(sc: u64, f: u64, t: u64) -> u64
     sc * g / Grid::UNITS_IN_ONE
 }
 
-// F of a colour.
+// Line 5 of a colour.
 fn hue_f_of(a: i64, b: i64) -> u64
     requires { ⌜ Both (2 ^ 28) a b ⌝ }
     ensures { λ r. ⌜ r ≡ hueF 20 (hueQ 20 a b) (hueW 20 (hueQ 20 a b)) ⌝ }
@@ -88,7 +88,7 @@ fn hue_f_of(a: i64, b: i64) -> u64
     hue_f(q, hue_w(q))
 }
 
-// T of a colour that is not neutral.
+// Line 6 of a colour that is not neutral: the C by which T divides is not 0.
 fn hue_t_of(a: i64, b: i64, c: u64) -> u64
     requires { ⌜ Chromatic a b c ⌝ }
     ensures { λ r. ⌜ r ≡ hueT 20 (secondForm a b) (hueM (secondForm a b) a b) c ⌝ }

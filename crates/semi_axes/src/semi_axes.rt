@@ -14,7 +14,7 @@ ghost use Rattle.colour.specs.Conversion.Ranges.{OnGrid};
 ghost use Rattle.sheet.specs.Ranges.{Both};
 ghost use Rattle.sheet.specs.Sheet.{semiAxisL, semiAxisC, semiAxesCIELAB, semiAxesCIE94, semiAxesCMC, semiAxes};
 
-// SL.
+// Line 3. L* is at most 120, so the numerator fits 64 bits.
 fn semi_axis_l(l: u64) -> u64
     requires { ⌜ l ≤ 120 * 2 ^ 20 ⌝ }
     ensures { λ r. ⌜ r ≡ semiAxisL 20 l ⌝ }
@@ -25,7 +25,7 @@ fn semi_axis_l(l: u64) -> u64
     40975 * l * Grid::UNITS_IN_ONE / (1000000 * Grid::UNITS_IN_ONE + 17650 * l)
 }
 
-// SC. Its numerator at 20 places has 67 bits, so the places come by long division.
+// Line 4. Its numerator at 20 places has 67 bits, so the places come by long division.
 fn semi_axis_c(c: u64) -> u64
     requires { ⌜ c < 2 ^ 29 ⌝ }
     ensures { λ r. ⌜ r ≡ semiAxisC 20 c ⌝ }

@@ -3,5 +3,5 @@
 pub mod Settings
 -- the ranges that the functions ask for
 pub mod Ranges
--- 01's step sheet over n, its laws, bounds, facts and cases
+-- the step sheet over n, its laws, bounds, facts and cases
 pub mod Sheet

@@ -25,7 +25,7 @@ pub record Both (m : ℕ) (x y : ℤ) : Type 0 where
   pub first : ∣ x ∣ ≤ m
   pub second : ∣ y ∣ ≤ m
 
--- four numbers
+-- the four factors of two products
 pub record Four (m : ℕ) (p q r s : ℤ) : Type 0 where
   pub first : Both m p q
   pub second : Both m r s

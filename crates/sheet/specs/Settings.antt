@@ -1,4 +1,4 @@
--- 01-scope.md on settings: the formulas' numbers, and the ranges of l, c and the tolerance, which nothing else says. Assumes nothing.
+-- docs/SCOPE.md 3.3, 8.1: the formulas' numbers, and the ranges of l, c and the tolerance. Assumes nothing.
 use mathlib.Core.Bool.{Bool, cond, _&&_}
 use Prim.Native.Nat.{ℕ, _≤_}
 use lib.Dec.{leb, eqb}
@@ -10,7 +10,7 @@ pub mod Laws
 
 -- ---- formulas by number
 
--- 01's numbers
+-- by which a load names them
 abbrev pub numberOfFormula : Formula → ℕ
 numberOfFormula CIELAB = 1
 numberOfFormula CIE94 = 2

@@ -1,15 +1,16 @@
--- The step sheet of 01-scope.md at n binary places: its numbered lines in their order, a definition for each quantity, and below them the
--- whole sheet. A quantity is a whole number of units of 2 ^ -n, its magnitude rounded down once, by `/`, by `÷` or by `rootOf 2`. The text is
--- the same at every n. A decimal is a fraction over a power of ten, and a sum p/q + r/s is the one fraction (p s + q r)/(q s).
+-- The step sheet, docs/SCOPE.md 6, at n binary places: its numbered lines in their order, a definition for each
+-- quantity, and below them the whole sheet. A quantity is a whole number of units of 2 ^ -n, its magnitude rounded down
+-- once, by `/`, by `÷` or by `rootOf 2`. The text is the same at every n. A decimal is a fraction over a power of ten,
+-- and a sum p/q + r/s is the one fraction (p s + q r)/(q s).
 --
--- Arguments bear 01's own symbols, and each definition is a word for its symbol:
+-- Arguments bear the sheet's own symbols, and each definition is a word for its symbol:
 --   C chroma, D² distance², ΔL and ΔC change, ΔH hueChange
 --   SL, SC, SH semiAxisL, semiAxisC, semiAxisH; under CIE94 semiAxisC94, semiAxisH94
 --   Q, W, F, T, P, G of lines 5 to 7 hueQ, hueW, hueF, hueT, hueP, hueG
 --   DL and DC component, DH componentH, DE total
 --
--- Definitions only: `Sheet/Laws.antt` has what callers go by, `Sheet/Bounds.antt` the sizes that the code relies on, `Sheet/Facts.antt`
--- what a reader may ask, `Sheet/Cases.antt` the figures of 01. Assumes nothing.
+-- Definitions only: `Sheet/Laws.antt` has what callers go by, `Sheet/Bounds.antt` the sizes that the code relies on,
+-- `Sheet/Facts.antt` what a reader may ask, `Sheet/Cases.antt` the figures of SCOPE 12.1. Assumes nothing.
 use mathlib.Core.Bool.{Bool, true, false, not, cond, _&&_, _||_}
 use Prim.Native.Nat.{ℕ, _+_, _-_, _*_, _/_, _^_}
 use lib.Dec.{leb, ltb, eqb}
@@ -31,6 +32,7 @@ use Rattle.sheet.specs.declared.verdict.Verdict.the-variants.{Near, Pass
 pub mod Laws
 pub mod Bounds
 pub mod Facts
+pub mod Apart
 pub mod Cases
 
 -- ---- lines 1 to 8
@@ -86,17 +88,19 @@ hueW n Q = rootOf 2 (Q * Q + 1900 * (2 ^ (n - 7) * 2 ^ (n - 7)))
 unfoldable pub hueF : (n Q W : ℕ) → ℕ
 hueF n Q W = Q * 2 ^ n / W
 
--- line 6: second form if -0.27563736 a - 0.96126170 b > 0 or -0.25881905 a - 0.96592583 b > 0, both sums exact, else first form.
--- Each is asked as whether the sum with both signs turned is below 0
+-- line 6: second form if -0.27563736 a - 0.96126170 b > 0 or -0.25881905 a - 0.96592583 b > 0, both sums exact, else
+-- first form. Each is asked as whether the sum with both signs turned is below 0
 unfoldable pub secondForm : (a b : ℤ) → Bool
 secondForm a b = minus (27563736 · a +ℤ 96126170 · b) || minus (25881905 · a +ℤ 96592583 · b)
 
--- line 6: 10 ^ 8 times the magnitude in T: |0.81915204 a - 0.57357644 b| in the first form, |0.97814760 a + 0.20791169 b| in the second
+-- line 6: 10 ^ 8 times the magnitude in T: |0.81915204 a - 0.57357644 b| in the first form,
+-- |0.97814760 a + 0.20791169 b| in the second
 unfoldable pub hueM : (second : Bool) (a b : ℤ) → ℕ
 hueM false a b = ∣ 81915204 · a -ℤ 57357644 · b ∣
 hueM true a b = ∣ 97814760 · a +ℤ 20791169 · b ∣
 
--- line 6, with M for that magnitude: T = 0.36 + 0.4 M / C in the first form, T = 0.56 + 0.2 M / C in the second, over 10 ^ 9
+-- line 6, with M for that magnitude: T = 0.36 + 0.4 M / C in the first form, T = 0.56 + 0.2 M / C in the second, over
+-- 10 ^ 9
 unfoldable pub hueT : (n : ℕ) (second : Bool) (M C : ℕ) → ℕ
 hueT n false M C = (360000000 * C + 4 * M) * 2 ^ n / (1000000000 * C)
 hueT n true M C = (560000000 * C + 2 * M) * 2 ^ n / (1000000000 * C)
@@ -196,12 +200,13 @@ differences n l c S Δ =
 -- the sheet at n places, of a reference R and a test specimen T on the grid
 unfoldable pub sheet : (n : ℕ) → Formula → (l c : ℕ) (R T : GridColour) → Differences
 sheet n f l c R T =
-    differences n (factorUnder f l) (factorUnder f c) (semiAxes n f (atPlaces n R)) (shift (atPlaces n R) (atPlaces n T))
+    differences n (factorUnder f l) (factorUnder f c) (semiAxes n f (atPlaces n R))
+    (shift (atPlaces n R) (atPlaces n T))
 
 -- ---- the verdict
 
--- near if DE lies within 0.002 of the tolerance, both ends counted; else pass if below it, fail if above. Both count thousandths of a unit,
--- of which 2 · 2 ^ n are 0.002
+-- near if DE lies within 0.002 of the tolerance, both ends counted; else pass if below it, fail if above. Both count
+-- thousandths of a unit, of which 2 · 2 ^ n are 0.002
 unfoldable pub compared : (n tolerance DE : ℕ) → Verdict
 compared n tolerance DE = cond (leb ∣ change tolerance DE ∣ (2 * 2 ^ n)) Near (cond (ltb DE tolerance) Pass Fail)
 
@@ -249,4 +254,11 @@ unfoldable pub comparison : (n : ℕ) → Formula → (l c : ℕ) (R T : GridCol
 comparison n f l c R T =
     let t : Lab = atPlaces n T in
     let d : Differences = sheet n f l c R T in
-    record { C = chromaOf t; shift = shift (atPlaces n R) t; cross = crossOf R T; dot = dotOf R T; differences = d; scaled = differenceOn f (d .DE) }
+    record {
+      C = chromaOf t;
+      shift = shift (atPlaces n R) t;
+      cross = crossOf R T;
+      dot = dotOf R T;
+      differences = d;
+      scaled = differenceOn f (d .DE);
+    }

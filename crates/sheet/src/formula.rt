@@ -16,7 +16,7 @@ pub enum NumberedFormula {
 }
 
 impl Formula {
-    // 01's number of the formula.
+    // By which a load names the formula.
     pub fn number(self) -> u32
         ensures { λ r. ⌜ r ≡ numberOfFormula self ⌝ }
     {

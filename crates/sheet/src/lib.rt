@@ -1,4 +1,5 @@
-// The step sheet of 01-scope.md at 20 binary places: what it is worked from, what it gives, and the sums and the rule that its lines share.
+// The step sheet, SCOPE 6, at 20 binary places: what it is worked from, what it gives, and the sums and the rule that
+// its lines share.
 pub mod comparison;
 pub mod differences;
 pub mod formula;

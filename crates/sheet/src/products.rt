@@ -1,4 +1,5 @@
-// Two products, added or one less the other, and two squares. Bounds are those of the grid: |a|, |b| are at most 2^28, and the sheet's constants below 2^27.
+// Two products, added or one less the other, and two squares. Bounds are those of the grid: |a|, |b| are at most 2^28,
+// and the sheet's constants below 2^27.
 use rounding::signed::magnitude;
 ghost use mathlib.Core.Path.{_≡_};
 ghost use Prim.Native.Nat.{_+_, _^_};
@@ -6,7 +7,6 @@ ghost use lib.IntN.{_+ℤ_, _-ℤ_, _*ℤ_};
 ghost use Rattle.rounding.specs.Signed.{square};
 ghost use Rattle.sheet.specs.Ranges.{Both, Four};
 
-// p q + r s.
 pub fn plus_products(p: i64, q: i64, r: i64, s: i64) -> i64
     requires { ⌜ Four (2 ^ 28) p q r s ⌝ }
     ensures { λ z. ⌜ z ≡ p *ℤ q +ℤ r *ℤ s ⌝ }
@@ -14,7 +14,6 @@ pub fn plus_products(p: i64, q: i64, r: i64, s: i64) -> i64
     p * q + r * s
 }
 
-// p q - r s.
 pub fn less_products(p: i64, q: i64, r: i64, s: i64) -> i64
     requires { ⌜ Four (2 ^ 28) p q r s ⌝ }
     ensures { λ z. ⌜ z ≡ p *ℤ q -ℤ r *ℤ s ⌝ }
@@ -22,7 +21,6 @@ pub fn less_products(p: i64, q: i64, r: i64, s: i64) -> i64
     p * q - r * s
 }
 
-// x² + y².
 pub fn squares(x: i64, y: i64) -> u64
     requires { ⌜ Both (2 ^ 31) x y ⌝ }
     ensures { λ r. ⌜ r ≡ square x + square y ⌝ }

@@ -1,5 +1,5 @@
-// Differences and tolerances on the scale of their formula. Each scale has a type of its own, so that a tolerance fits only its own formula's
-// difference.
+// Differences and tolerances on the scale of their formula. Each scale has a type of its own, so that a tolerance fits
+// only its own formula's difference.
 use crate::formula::Formula;
 use crate::verdict::Verdict;
 use crate::verdict::compare;

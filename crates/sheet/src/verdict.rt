@@ -1,4 +1,4 @@
-// The verdict.
+// SCOPE 6.4: the verdict.
 use reading::grid::Grid;
 ghost use mathlib.Core.Path.{_≡_};
 ghost use Rattle.rounding.specs.Signed.{∣_∣};
@@ -10,14 +10,13 @@ pub enum Verdict {
     Fail,
 }
 
-// How far two numbers are apart.
 fn apart(x: u64, y: u64) -> u64
     ensures { λ r. ⌜ r ≡ ∣ change x y ∣ ⌝ }
 {
     if x < y { y - x } else { x - y }
 }
 
-// The rule, on one scale: 0.002 is this many thousandths of a grid unit.
+// 0.002 on every scale, in thousandths of a grid unit.
 const NEAR: u64 = 2 * Grid::UNITS_IN_ONE;
 
 pub(crate) fn compare(tolerance: u64, de: u64) -> Verdict

@@ -1,4 +1,5 @@
--- 01-scope.md, sheet cases 1 to 3, by computation, under one theorem: in units of 2 ^ -20, as printed there. No proof cites this. Assumes nothing.
+-- docs/SCOPE.md 12.1, cases 1 to 3, by computation, under one theorem: in units of 2 ^ -20, as printed there. No proof
+-- cites this. Assumes nothing.
 use mathlib.Core.Path.{_≡_, refl}
 use mathlib.Core.Bool.{false}
 use lib.IntN.{pos}
@@ -11,7 +12,8 @@ pub record ConversionCases : Type 0 where
   -- D65/10, X Y Z = the white
   pub case-1 : convert 20 bs6923 (whiteOf D65Ten) (whiteOf D65Ten) ≡ record { L = 104857600; a = pos 0; b = pos 0 }
   -- all zero
-  pub case-2 : convert 20 bs6923 (whiteOf D65Ten) (record { X = 0; Y = 0; Z = 0 }) ≡ record { L = 0; a = pos 0; b = pos 0 }
+  pub case-2 :
+      convert 20 bs6923 (whiteOf D65Ten) (record { X = 0; Y = 0; Z = 0 }) ≡ record { L = 0; a = pos 0; b = pos 0 }
   -- Yn = 100, Y = 0.885600: low branch
   pub case-3 : (aboveCut bs6923 885600 100000000 ≡ false) × (lightness 20 bs6923 885600 100000000 ≡ 8388214)
 

@@ -67,17 +67,21 @@ module _ (next : (x y z : ℤ) → Placed) where
   take-first-refused u v w not-finite e = ap Refused e
   take-first-refused u v w out-of-range e = ap Refused e
 
-  pub take-second-refused : {n : ℕ} {x : ℤ} (u v w : Units) → u ≡ Of x → NoUnits v → n ≡ fault (Of x) v w → Refused n ≡ take u v w next
+  pub take-second-refused :
+      {n : ℕ} {x : ℤ} (u v w : Units) → u ≡ Of x → NoUnits v → n ≡ fault (Of x) v w → Refused n ≡ take u v w next
   unfolding take
   take-second-refused u v w eu not-finite e = rw eu (ap Refused e)
   take-second-refused u v w eu out-of-range e = rw eu (ap Refused e)
 
-  pub take-third-refused : {n : ℕ} {x y : ℤ} (u v w : Units) → u ≡ Of x → v ≡ Of y → NoUnits w → n ≡ fault (Of x) (Of y) w → Refused n ≡ take u v w next
+  pub take-third-refused :
+      {n : ℕ} {x y : ℤ} (u v w : Units) → u ≡ Of x → v ≡ Of y → NoUnits w → n ≡ fault (Of x) (Of y) w →
+      Refused n ≡ take u v w next
   unfolding take
   take-third-refused u v w eu ev not-finite e = rw (eu, ev) (ap Refused e)
   take-third-refused u v w eu ev out-of-range e = rw (eu, ev) (ap Refused e)
 
-  pub take-handed : {x y z : ℤ} {p : Placed} (u v w : Units) → u ≡ Of x → v ≡ Of y → w ≡ Of z → p ≡ next x y z → p ≡ take u v w next
+  pub take-handed :
+      {x y z : ℤ} {p : Placed} (u v w : Units) → u ≡ Of x → v ≡ Of y → w ≡ Of z → p ≡ next x y z → p ≡ take u v w next
   unfolding take
   take-handed u v w eu ev ew e = rw (eu, ev, ew) e
 
@@ -86,12 +90,38 @@ module _ (next : (x y z : ℤ) → Placed) where
 against : (x : ℕ) {w : ℕ} → x ≤ 150000000 → 94000000 ≤ w → w ≤ 119000000 → Against x w
 against x h l m = record { value = h; low = l; high = m }
 
-pub measured : (w : White) {c : TristimulusValues} → c .X ≤ 150000000 → c .Y ≤ 150000000 → c .Z ≤ 150000000 → Measured c (whiteOf w)
+pub measured :
+    (w : White) {c : TristimulusValues} → c .X ≤ 150000000 → c .Y ≤ 150000000 → c .Z ≤ 150000000 →
+    Measured c (whiteOf w)
 unfolding whiteOf
-measured D65Ten x y z = record { X = against _ x (omega arith) (omega arith); Y = against _ y (omega arith) (omega arith); Z = against _ z (omega arith) (omega arith) }
-measured D65Two x y z = record { X = against _ x (omega arith) (omega arith); Y = against _ y (omega arith) (omega arith); Z = against _ z (omega arith) (omega arith) }
-measured CTen x y z = record { X = against _ x (omega arith) (omega arith); Y = against _ y (omega arith) (omega arith); Z = against _ z (omega arith) (omega arith) }
-measured CTwo x y z = record { X = against _ x (omega arith) (omega arith); Y = against _ y (omega arith) (omega arith); Z = against _ z (omega arith) (omega arith) }
+measured D65Ten x y z =
+    record {
+      X = against _ x (omega arith) (omega arith);
+      Y = against _ y (omega arith) (omega arith);
+      Z =
+          against _ z (omega arith) (omega arith);
+    }
+measured D65Two x y z =
+    record {
+      X = against _ x (omega arith) (omega arith);
+      Y = against _ y (omega arith) (omega arith);
+      Z =
+          against _ z (omega arith) (omega arith);
+    }
+measured CTen x y z =
+    record {
+      X = against _ x (omega arith) (omega arith);
+      Y = against _ y (omega arith) (omega arith);
+      Z =
+          against _ z (omega arith) (omega arith);
+    }
+measured CTwo x y z =
+    record {
+      X = against _ x (omega arith) (omega arith);
+      Y = against _ y (omega arith) (omega arith);
+      Z =
+          against _ z (omega arith) (omega arith);
+    }
 
 -- ---- a converted colour: its three ways out
 
@@ -100,11 +130,14 @@ module _ (c : GridColour) where
   unfolding accepted
   accepted-beyond-a h = rw h
 
-  pub accepted-beyond-b : isWithin (rangeOf Opponent) (c .a .0) ≡ true → isWithin (rangeOf Opponent) (c .b .0) ≡ false → accepted c ≡ Refused 8
+  pub accepted-beyond-b :
+      isWithin (rangeOf Opponent) (c .a .0) ≡ true → isWithin (rangeOf Opponent) (c .b .0) ≡ false →
+      accepted c ≡ Refused 8
   unfolding accepted
   accepted-beyond-b h g = rw (h, g)
 
-  pub accepted-at : isWithin (rangeOf Opponent) (c .a .0) ≡ true → isWithin (rangeOf Opponent) (c .b .0) ≡ true → accepted c ≡ At c
+  pub accepted-at :
+      isWithin (rangeOf Opponent) (c .a .0) ≡ true → isWithin (rangeOf Opponent) (c .b .0) ≡ true → accepted c ≡ At c
   unfolding accepted
   accepted-at h g = rw (h, g)
 

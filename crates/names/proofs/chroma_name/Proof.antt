@@ -8,5 +8,11 @@ chroma-name-spec =
     tie.close
     (tie.spec
     (λ c. rw (rw (toZ-ofZ (c .before .fits .dc)) at (c .if1 .taken)))
-    (λ c. rw (rw (toZ-ofZ (c .before .before .fits .dc)) at (c .before .if1 .left), rw (toZ-ofZ (c .before .before .fits .dc)) at (c .if2 .taken)))
-    (λ c. rw (rw (toZ-ofZ (c .before .before .fits .dc)) at (c .before .if1 .left), rw (toZ-ofZ (c .before .before .fits .dc)) at (c .if2 .left))))
+    (λ c. rw (
+      rw (toZ-ofZ (c .before .before .fits .dc)) at (c .before .if1 .left),
+      rw (toZ-ofZ (c .before .before .fits .dc)) at (c .if2 .taken),
+    ))
+    (λ c. rw (
+      rw (toZ-ofZ (c .before .before .fits .dc)) at (c .before .if1 .left),
+      rw (toZ-ofZ (c .before .before .fits .dc)) at (c .if2 .left),
+    )))

@@ -18,7 +18,9 @@ same-is c = simp (toZ-ofZ, c .before .fits .cross, c .before .fits .dot) at (c .
 equal : tie.Need-returns
 equal c = sym (hue-equal _ _ _ _ (sym (same-is (c .before)) ∙ c .if1 .taken))
 
-turned : (a b : ℤ) {first next : Axis} {w v : Bool} → w ≡ v → first ≡ firstMet v a b → next ≡ nextMet v first → Towards first next ≡ Towards (firstMet w a b) (nextMet w (firstMet w a b))
+turned :
+    (a b : ℤ) {first next : Axis} {w v : Bool} → w ≡ v → first ≡ firstMet v a b → next ≡ nextMet v first →
+    Towards first next ≡ Towards (firstMet w a b) (nextMet w (firstMet w a b))
 turned a b hw hf hn = cc
 
 clockwise : tie.Need-returns-2
@@ -28,7 +30,8 @@ clockwise c =
     let s = e .before .before in
     let first = simp (toZ-ofZ, s .fits .a, s .fits .b) at (c .before .first-clockwise .ensures) in
     turned (s .args .a) (s .args .b) (rw (toZ-ofZ (s .fits .cross)) at (t .if2 .taken)) first (c .next-axis .ensures)
-    ∙ sym (hue-towards (s .args .cross) (s .args .dot) (s .args .a) (s .args .b) (sym (same-is (e .before)) ∙ e .if1 .left))
+    ∙ sym (hue-towards (s .args .cross) (s .args .dot) (s .args .a) (s .args .b)
+    (sym (same-is (e .before)) ∙ e .if1 .left))
 
 anticlockwise : tie.Need-returns-3
 anticlockwise c =
@@ -37,7 +40,8 @@ anticlockwise c =
     let s = e .before .before in
     let first = simp (toZ-ofZ, s .fits .a, s .fits .b) at (c .before .first-anticlockwise .ensures) in
     turned (s .args .a) (s .args .b) (rw (toZ-ofZ (s .fits .cross)) at (t .if2 .left)) first (c .next-axis2 .ensures)
-    ∙ sym (hue-towards (s .args .cross) (s .args .dot) (s .args .a) (s .args .b) (sym (same-is (e .before)) ∙ e .if1 .left))
+    ∙ sym (hue-towards (s .args .cross) (s .args .dot) (s .args .a) (s .args .b)
+    (sym (same-is (e .before)) ∙ e .if1 .left))
 
 pub hue-name-spec : {M : Type 1} → statement M
 hue-name-spec =

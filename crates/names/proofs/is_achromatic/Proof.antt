@@ -1,5 +1,5 @@
--- `names::is_achromatic` meets its contract: past 4 either square alone is above 16, which is 17592186044416 in units of 2^-40, and up to 4
--- both fit. Assumes nothing.
+-- `names::is_achromatic` meets its contract: past 4 either square alone is above 16, which is 17592186044416 in units
+-- of 2^-40, and up to 4 both fit. Assumes nothing.
 use mathlib.Core.Path.{_≡_, sym, ap, ap₂, _∙_}
 use mathlib.Core.Bool.{false}
 use Prim.Native.Nat.{ℕ, _+_, _*_, _^_, _≤_, _<_}

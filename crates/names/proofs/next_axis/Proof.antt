@@ -1,4 +1,5 @@
--- `names::next_axis` meets its contract: each arm is a row of `turn`, which is what the rule of turning gives (`next-turn`). Assumes nothing.
+-- `names::next_axis` meets its contract: each arm is a row of `turn`, which is what the rule of turning gives
+-- (`next-turn`). Assumes nothing.
 use mathlib.Core.Path.{_≡_, sym, ap₂, _∙_}
 use mathlib.Core.Bool.{Bool}
 use borrow.Author.Needs.{needs}

@@ -1,5 +1,6 @@
--- What follows from the rule of turning: the axis met is told by the signs of a and b, it is always just one, and a hue is equal exactly when the
--- cross is 0 and the dot not negative, as it always is from a neutral reference. Assumes nothing.
+-- What follows from the rule of turning: the axis met is told by the signs of a and b, it is always just one, and a hue
+-- is equal exactly when the cross is 0 and the dot not negative, as it always is from a neutral reference.
+-- Assumes nothing.
 use mathlib.Core.Path.{_≡_, refl, sym, ap, ap₂, _∙_}
 use mathlib.Core.Bool.{Bool, true, false, not, cond, _&&_}
 use Prim.Native.Nat.{ℕ, zero, suc, zero-le}
@@ -53,37 +54,54 @@ sign (negsuc n) = below refl refl
 module _ (a b : ℤ) where
   cross-redder : cross a b (pos 1) (pos 0) ≡ negℤ b
   unfolding cross
-  cross-redder = diff-same _ _ _ _ (omega arith) (diff-sub (diff-mul (diff-parts a) (diff-parts (pos 0))) (diff-mul (diff-parts (pos 1)) (diff-parts b))) (diff-neg (diff-parts b))
+  cross-redder =
+      diff-same _ _ _ _ (omega arith) (diff-sub (diff-mul (diff-parts a) (diff-parts (pos 0)))
+      (diff-mul (diff-parts (pos 1)) (diff-parts b))) (diff-neg (diff-parts b))
 
   dot-redder : dot a b (pos 1) (pos 0) ≡ a
   unfolding dot
-  dot-redder = diff-same _ _ _ _ (omega arith) (diff-add (diff-mul (diff-parts a) (diff-parts (pos 1))) (diff-mul (diff-parts b) (diff-parts (pos 0)))) (diff-parts a)
+  dot-redder =
+      diff-same _ _ _ _ (omega arith) (diff-add (diff-mul (diff-parts a) (diff-parts (pos 1)))
+      (diff-mul (diff-parts b) (diff-parts (pos 0)))) (diff-parts a)
 
   cross-yellower : cross a b (pos 0) (pos 1) ≡ a
   unfolding cross
-  cross-yellower = diff-same _ _ _ _ (omega arith) (diff-sub (diff-mul (diff-parts a) (diff-parts (pos 1))) (diff-mul (diff-parts (pos 0)) (diff-parts b))) (diff-parts a)
+  cross-yellower =
+      diff-same _ _ _ _ (omega arith) (diff-sub (diff-mul (diff-parts a) (diff-parts (pos 1)))
+      (diff-mul (diff-parts (pos 0)) (diff-parts b))) (diff-parts a)
 
   dot-yellower : dot a b (pos 0) (pos 1) ≡ b
   unfolding dot
-  dot-yellower = diff-same _ _ _ _ (omega arith) (diff-add (diff-mul (diff-parts a) (diff-parts (pos 0))) (diff-mul (diff-parts b) (diff-parts (pos 1)))) (diff-parts b)
+  dot-yellower =
+      diff-same _ _ _ _ (omega arith) (diff-add (diff-mul (diff-parts a) (diff-parts (pos 0)))
+      (diff-mul (diff-parts b) (diff-parts (pos 1)))) (diff-parts b)
 
   cross-greener : cross a b (negsuc 0) (pos 0) ≡ b
   unfolding cross
-  cross-greener = diff-same _ _ _ _ (omega arith) (diff-sub (diff-mul (diff-parts a) (diff-parts (pos 0))) (diff-mul (diff-parts (negsuc 0)) (diff-parts b))) (diff-parts b)
+  cross-greener =
+      diff-same _ _ _ _ (omega arith) (diff-sub (diff-mul (diff-parts a) (diff-parts (pos 0)))
+      (diff-mul (diff-parts (negsuc 0)) (diff-parts b))) (diff-parts b)
 
   dot-greener : dot a b (negsuc 0) (pos 0) ≡ negℤ a
   unfolding dot
-  dot-greener = diff-same _ _ _ _ (omega arith) (diff-add (diff-mul (diff-parts a) (diff-parts (negsuc 0))) (diff-mul (diff-parts b) (diff-parts (pos 0)))) (diff-neg (diff-parts a))
+  dot-greener =
+      diff-same _ _ _ _ (omega arith) (diff-add (diff-mul (diff-parts a) (diff-parts (negsuc 0)))
+      (diff-mul (diff-parts b) (diff-parts (pos 0)))) (diff-neg (diff-parts a))
 
   cross-bluer : cross a b (pos 0) (negsuc 0) ≡ negℤ a
   unfolding cross
-  cross-bluer = diff-same _ _ _ _ (omega arith) (diff-sub (diff-mul (diff-parts a) (diff-parts (negsuc 0))) (diff-mul (diff-parts (pos 0)) (diff-parts b))) (diff-neg (diff-parts a))
+  cross-bluer =
+      diff-same _ _ _ _ (omega arith) (diff-sub (diff-mul (diff-parts a) (diff-parts (negsuc 0)))
+      (diff-mul (diff-parts (pos 0)) (diff-parts b))) (diff-neg (diff-parts a))
 
   dot-bluer : dot a b (pos 0) (negsuc 0) ≡ negℤ b
   unfolding dot
-  dot-bluer = diff-same _ _ _ _ (omega arith) (diff-add (diff-mul (diff-parts a) (diff-parts (pos 0))) (diff-mul (diff-parts b) (diff-parts (negsuc 0)))) (diff-neg (diff-parts b))
+  dot-bluer =
+      diff-same _ _ _ _ (omega arith) (diff-add (diff-mul (diff-parts a) (diff-parts (pos 0)))
+      (diff-mul (diff-parts b) (diff-parts (negsuc 0)))) (diff-neg (diff-parts b))
 
--- so an axis is met in one of the quarters beside it: the quarter's edge that lies on the axis is left out, its other edge counts
+-- so an axis is met in one of the quarters beside it: the quarter's edge that lies on the axis is left out, its other
+-- edge counts
 
 abbrev both : Bool → Bool → Bool
 both p q = p && not q
@@ -130,11 +148,13 @@ pick-is : {p q r p′ q′ r′ : Bool} → p ≡ p′ → q ≡ q′ → r ≡ 
 pick-is hp hq hr = cc
 
 module _ (a b : ℤ) where
-  pub first-anticlockwise : firstMet false a b ≡ pick (both (minus b) (minus a)) (both (plus b) (plus a)) (both (minus a) (plus b))
+  pub first-anticlockwise :
+      firstMet false a b ≡ pick (both (minus b) (minus a)) (both (plus b) (plus a)) (both (minus a) (plus b))
   unfolding firstMet
   first-anticlockwise = pick-is (met-redder a b) (met-greener a b) (met-bluer a b)
 
-  pub first-clockwise : firstMet true a b ≡ pick (both (plus b) (minus a)) (both (minus b) (plus a)) (both (plus a) (plus b))
+  pub first-clockwise :
+      firstMet true a b ≡ pick (both (plus b) (minus a)) (both (minus b) (plus a)) (both (plus a) (plus b))
   unfolding firstMet
   first-clockwise = pick-is (met-redder-back a b) (met-greener-back a b) (met-bluer-back a b)
 
@@ -242,7 +262,9 @@ module _ (w : Bool) (a b : ℤ) where
 
 -- the signs of a and b put (a, b) into one of eight places, four on the axes and four between them
 module _ {a b : ℤ} (some : a ≡ pos 0 → b ≡ pos 0 → ⊥) where
-  one-ahead : Sign a → Sign b → T (one (both (minus b) (minus a)) (both (plus a) (minus b)) (both (plus b) (plus a)) (both (minus a) (plus b)))
+  one-ahead :
+      Sign a → Sign b →
+      T (one (both (minus b) (minus a)) (both (plus a) (minus b)) (both (plus b) (plus a)) (both (minus a) (plus b)))
   one-ahead (below p q) (below r s) = rw (p, q, r, s) tt
   one-ahead (below p q) (none e r s) = rw (p, q, r, s) tt
   one-ahead (below p q) (above r s) = rw (p, q, r, s) tt
@@ -253,7 +275,9 @@ module _ {a b : ℤ} (some : a ≡ pos 0 → b ≡ pos 0 → ⊥) where
   one-ahead (above p q) (none e r s) = rw (p, q, r, s) tt
   one-ahead (above p q) (above r s) = rw (p, q, r, s) tt
 
-  one-behind : Sign a → Sign b → T (one (both (plus b) (minus a)) (both (minus a) (minus b)) (both (minus b) (plus a)) (both (plus a) (plus b)))
+  one-behind :
+      Sign a → Sign b →
+      T (one (both (plus b) (minus a)) (both (minus a) (minus b)) (both (minus b) (plus a)) (both (plus a) (plus b)))
   one-behind (below p q) (below r s) = rw (p, q, r, s) tt
   one-behind (below p q) (none e r s) = rw (p, q, r, s) tt
   one-behind (below p q) (above r s) = rw (p, q, r, s) tt
@@ -264,12 +288,16 @@ module _ {a b : ℤ} (some : a ≡ pos 0 → b ≡ pos 0 → ⊥) where
   one-behind (above p q) (none e r s) = rw (p, q, r, s) tt
   one-behind (above p q) (above r s) = rw (p, q, r, s) tt
 
--- THE RULE NAMES ONE AXIS: from any (a, b) but (0, 0), a turn either way meets just one axis within its first quarter, the one that `firstMet` is
-pub one-axis-met : (clockwise : Bool) (a b : ℤ) → (a ≡ pos 0 → b ≡ pos 0 → ⊥) → OnlyMet clockwise a b (firstMet clockwise a b)
+-- THE RULE NAMES ONE AXIS: from any (a, b) but (0, 0), a turn either way meets just one axis within its first quarter,
+-- the one that `firstMet` is
+pub one-axis-met :
+    (clockwise : Bool) (a b : ℤ) → (a ≡ pos 0 → b ≡ pos 0 → ⊥) → OnlyMet clockwise a b (firstMet clockwise a b)
 one-axis-met false a b some =
-    only-one false a b _ _ _ _ (met-redder a b) (met-yellower a b) (met-greener a b) (met-bluer a b) (one-ahead some (sign a) (sign b))
+    only-one false a b _ _ _ _ (met-redder a b) (met-yellower a b) (met-greener a b) (met-bluer a b)
+    (one-ahead some (sign a) (sign b))
 one-axis-met true a b some =
-    only-one true a b _ _ _ _ (met-redder-back a b) (met-yellower-back a b) (met-greener-back a b) (met-bluer-back a b) (one-behind some (sign a) (sign b))
+    only-one true a b _ _ _ _ (met-redder-back a b) (met-yellower-back a b) (met-greener-back a b) (met-bluer-back a b)
+    (one-behind some (sign a) (sign b))
 
 -- ---- the axis after an axis: 0, 90, 180, 270 degrees and round again, or back
 
@@ -301,7 +329,8 @@ unfolding hueNamed
 hue-equal cross dot a b h = rw h
 
 pub hue-towards :
-    (cross dot a b : ℤ) → sameHue cross dot ≡ false → hueNamed cross dot a b ≡ Towards (firstMet (minus cross) a b) (nextMet (minus cross) (firstMet (minus cross) a b))
+    (cross dot a b : ℤ) → sameHue cross dot ≡ false →
+    hueNamed cross dot a b ≡ Towards (firstMet (minus cross) a b) (nextMet (minus cross) (firstMet (minus cross) a b))
 unfolding hueNamed
 hue-towards cross dot a b h = rw h
 
@@ -310,7 +339,9 @@ pub same-of-equal : (cross dot a b : ℤ) → hueNamed cross dot a b ≡ Equal �
 unfolding hueNamed
 same-of-equal cross dot a b e = go (sameHue cross dot) e
   where
-    go : (s : Bool) → cond s Equal (Towards (firstMet (minus cross) a b) (nextMet (minus cross) (firstMet (minus cross) a b))) ≡ Equal → s ≡ true
+    go :
+        (s : Bool) → cond s Equal (Towards (firstMet (minus cross) a b)
+        (nextMet (minus cross) (firstMet (minus cross) a b))) ≡ Equal → s ≡ true
     go true h = refl
     go false h = let no : _≡_ {A = ℕ} 0 1 = cc in absurd (omega arith)
 
@@ -319,17 +350,22 @@ same-of-equal cross dot a b e = go (sameHue cross dot) e
 module _ (a b : ℤ) where
   cross-neutral : cross (pos 0) (pos 0) a b ≡ pos 0
   unfolding cross
-  cross-neutral = diff-same _ _ _ _ (omega arith) (diff-sub (diff-mul (diff-parts (pos 0)) (diff-parts b)) (diff-mul (diff-parts a) (diff-parts (pos 0)))) (diff-parts (pos 0))
+  cross-neutral =
+      diff-same _ _ _ _ (omega arith) (diff-sub (diff-mul (diff-parts (pos 0)) (diff-parts b))
+      (diff-mul (diff-parts a) (diff-parts (pos 0)))) (diff-parts (pos 0))
 
   dot-neutral : dot (pos 0) (pos 0) a b ≡ pos 0
   unfolding dot
-  dot-neutral = diff-same _ _ _ _ (omega arith) (diff-add (diff-mul (diff-parts (pos 0)) (diff-parts a)) (diff-mul (diff-parts (pos 0)) (diff-parts b))) (diff-parts (pos 0))
+  dot-neutral =
+      diff-same _ _ _ _ (omega arith) (diff-add (diff-mul (diff-parts (pos 0)) (diff-parts a))
+      (diff-mul (diff-parts (pos 0)) (diff-parts b))) (diff-parts (pos 0))
 
 -- A NEUTRAL REFERENCE WITH a = b = 0 IS ALWAYS EQUAL IN HUE, whatever the test specimen is
 pub neutral-equal : (R T : GridColour) → R .a .0 ≡ pos 0 → R .b .0 ≡ pos 0 → hueName R T ≡ Equal
 unfolding hueName sameHue
 neutral-equal R T ha hb =
-    rw (ha, hb, cross-neutral (T .a .0) (T .b .0), dot-neutral (T .a .0) (T .b .0)) (hue-equal (pos 0) (pos 0) (pos 0) (pos 0) refl)
+    rw (ha, hb, cross-neutral (T .a .0) (T .b .0), dot-neutral (T .a .0) (T .b .0))
+    (hue-equal (pos 0) (pos 0) (pos 0) (pos 0) refl)
 
 -- ---- a comparison holds the cross and the dot that its hue is named by
 

@@ -1,11 +1,13 @@
--- What callers use of the settings: that numbers name what they are the numbers of, and each range's ends as facts. Assumes nothing.
+-- What callers use of the settings: that numbers name what they are the numbers of, and each range's ends as facts.
+-- Assumes nothing.
 use mathlib.Core.Path.{_≡_, refl}
 use mathlib.Core.Bool.{true, false}
 use Prim.Native.Nat.{ℕ, _≤_, _<_}
 use borrow.Author.Tests.{le-leb, lt-leb, leb-true}
 use lib.Dec.{leb}
 use Rattle.colour.specs.Conversion.Laws.{both-true}
-use Rattle.sheet.specs.Settings.{numberOfFormula, formulaNumbered, within, isFactor, isTolerance, Factor, Tolerance}
+use Rattle.sheet.specs.Settings.{numberOfFormula, formulaNumbered, within, isFactor, isTolerance, Factor}
+use Rattle.sheet.specs.Settings.{Tolerance}
 use Rattle.sheet.specs.declared.formula.Formula.{Formula}
 use Rattle.sheet.specs.declared.formula.Formula.the-variants.{CIELAB, CIE94, CMC}
 use Rattle.sheet.specs.declared.formula.NumberedFormula.the-variants.{Is}

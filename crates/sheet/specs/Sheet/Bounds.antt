@@ -1,5 +1,5 @@
--- What the sheet's quantities are at most, or at least, at 20 places on colours of the grid: so that the code's numbers fit 64 bits and no
--- divisor is 0. Assumes nothing.
+-- What the sheet's quantities are at most, or at least, at 20 places on colours of the grid: so that the code's numbers
+-- fit 64 bits and no divisor is 0. Assumes nothing.
 use mathlib.Core.Bool.{Bool, true, false, cond}
 use Prim.Native.Nat.{ℕ, _+_, _-_, _*_, _/_, _^_, _≤_, _<_}
 use native.Mathlib.Nat.{mul-le-mul, mul-le-mul-left, le-of-lt}
@@ -16,9 +16,12 @@ use Rattle.colour.specs.Conversion.Ranges.{OnGrid}
 use Rattle.colour.specs.Conversion.Places.{atPlaces-20, units}
 use Rattle.sheet.specs.Settings.{Factor}
 use Rattle.sheet.specs.Ranges.{Both, InRange, SemiAxis, SemiAxesInRange, Moved, Components, ComparisonInRange}
-use Rattle.sheet.specs.Sheet.{chroma, chromaOf, distance², sameHue, hueChange, semiAxisC94, semiAxisH94, semiAxisH, hueSemiAxis, component, componentH, total}
-use Rattle.sheet.specs.Sheet.{factorUnder, differences, sheet, comparison, semiAxesCIELAB, semiAxesCIE94, semiAxesCMC, semiAxes, shift}
-use Rattle.sheet.specs.Sheet.Laws.{chroma-lt, le-semiAxisL, semiAxisL-le, le-semiAxisC, semiAxisC-le, semiAxisH-le, hueSemiAxis-by-G, change-le}
+use Rattle.sheet.specs.Sheet.{chroma, chromaOf, distance², sameHue, hueChange, semiAxisC94, semiAxisH94}
+use Rattle.sheet.specs.Sheet.{semiAxisH, hueSemiAxis, component, componentH, total}
+use Rattle.sheet.specs.Sheet.{factorUnder, differences, sheet, comparison, semiAxesCIELAB, semiAxesCIE94}
+use Rattle.sheet.specs.Sheet.{semiAxesCMC, semiAxes, shift}
+use Rattle.sheet.specs.Sheet.Laws.{chroma-lt, le-semiAxisL, semiAxisL-le, le-semiAxisC, semiAxisC-le}
+use Rattle.sheet.specs.Sheet.Laws.{semiAxisH-le, hueSemiAxis-by-G, change-le}
 use Rattle.sheet.specs.Sheet.Laws.{semi-axes-C, abs-component, abs-componentH}
 use Rattle.sheet.specs.declared.semi_axes.SemiAxes.{SemiAxes}
 use Rattle.sheet.specs.declared.shift.Shift.{Shift}
@@ -43,7 +46,8 @@ semiAxisH-low SC G h g = le-div _ _ _ (omega arith) (omega (arith, mul-le-mul h 
 hueSemiAxis-fits : (a b : ℤ) (SC : ℕ) → 668991 ≤ SC → SC < 2 ^ 40 → SemiAxis (hueSemiAxis 20 a b (chroma a b) SC)
 hueSemiAxis-fits a b SC h g =
     let by = hueSemiAxis-by-G 20 a b SC in
-    rw (by .is) (record { low = semiAxisH-low SC (by .G) h (by .low); high = omega (arith, semiAxisH-le 20 {SC = SC} (by .high)) })
+    rw (by .is)
+    (record { low = semiAxisH-low SC (by .G) h (by .low); high = omega (arith, semiAxisH-le 20 {SC = SC} (by .high)) })
 
 semi-axes-in-range : (f : Formula) (R : Lab) → Both (2 ^ 28) (R .a) (R .b) → SemiAxesInRange (semiAxes 20 f R)
 unfolding semiAxes semiAxesCIELAB semiAxesCIE94 semiAxesCMC semiAxisC94 semiAxisH94
@@ -128,15 +132,21 @@ pub components-fit :
     Factor l → Factor c → SemiAxesInRange S → Moved Δ →
     Components (component 20 l (S .SL) (Δ .L)) (component 20 c (S .SC) (Δ .C)) (componentH 20 (S .SH) (Δ .H))
 components-fit {l} {c} {S} {Δ} hl hc s m = record {
-  L = rw abs-component (quotient-le 1048576000 (120 * 2 ^ 20) _ _ (500 * 535822) _ (m .L) (mul-le-mul (hl .low) (s .SL)) (omega arith) (omega arith));
-  C = rw abs-component (quotient-le 1048576000 (2 ^ 29) _ _ (500 * 668991) _ (m .C) (mul-le-mul (hc .low) (s .SC)) (omega arith) (omega arith));
+  L =
+      rw abs-component (quotient-le 1048576000 (120 * 2 ^ 20) _ _ (500 * 535822) _ (m .L) (mul-le-mul (hl .low) (s .SL))
+      (omega arith) (omega arith));
+  C =
+      rw abs-component (quotient-le 1048576000 (2 ^ 29) _ _ (500 * 668991) _ (m .C) (mul-le-mul (hc .low) (s .SC))
+      (omega arith) (omega arith));
   H = rw abs-componentH (quotient-le 1048576 759250125 _ _ 240000 _ (m .H) (s .hue .low) (omega arith) (omega arith));
 }
 
 -- DE is below 4096
 pub total-lt : {DL DC DH : ℤ} → Components DL DC DH → total DL DC DH < 2 ^ 32
 unfolding total
-total-lt h = root-lt 2 _ (2 ^ 32) (omega arith) (omega (arith, mul-le-mul (h .L) (h .L), mul-le-mul (h .C) (h .C), mul-le-mul (h .H) (h .H)))
+total-lt h =
+    root-lt 2 _ (2 ^ 32) (omega arith)
+    (omega (arith, mul-le-mul (h .L) (h .L), mul-le-mul (h .C) (h .C), mul-le-mul (h .H) (h .H)))
 
 -- ---- the sheet
 
@@ -144,7 +154,8 @@ module _ (f : Formula) {l c : ℕ} {R T : GridColour} (h : InRange l c R T) wher
   sheet-components : Components (sheet 20 f l c R T .DL) (sheet 20 f l c R T .DC) (sheet 20 f l c R T .DH)
   unfolding sheet differences
   sheet-components =
-      components-fit (factorUnder-fits f (h .lightness)) (factorUnder-fits f (h .chroma)) (semi-axes-of-grid f (h .reference))
+      components-fit (factorUnder-fits f (h .lightness)) (factorUnder-fits f (h .chroma))
+      (semi-axes-of-grid f (h .reference))
       (shift-of-grid (h .reference) (h .specimen))
 
   pub sheet-DE-lt : sheet 20 f l c R T .DE < 2 ^ 32

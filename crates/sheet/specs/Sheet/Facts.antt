@@ -1,5 +1,6 @@
--- What a reader may ask of the sheet: equal colours differ by 0, DE is 0 only where its three parts are, how small a semi-axis can be, that no
--- divisor is 0, and what each verdict says of DE. At every n, from 20 up where a semi-axis is compared. Assumes nothing.
+-- What a reader may ask of the sheet: equal colours differ by 0, DE is 0 only where its three parts are, how small a
+-- semi-axis can be, that no divisor is 0, and what each verdict says of DE. At every n, from 20 up where a semi-axis is
+-- compared. Assumes nothing.
 use mathlib.Core.Path.{_≡_, refl, ap₂, _∙_}
 use mathlib.Core.Bool.{Bool, true, false, cond}
 use mathlib.Core.Logic.{_⊎_, inl, inr}
@@ -18,10 +19,13 @@ use Rattle.rounding.specs.Signed.Laws.{zero-of-abs}
 use Rattle.colour.specs.declared.conversion.GridColour.{GridColour}
 use Rattle.colour.specs.Conversion.{Lab}
 use Rattle.sheet.specs.Settings.{Factor}
-use Rattle.sheet.specs.Sheet.{chroma, chromaOf, distance², change, semiAxisH, hueQ, hueW, hueSemiAxis, semiAxisC, semiAxisC94}
-use Rattle.sheet.specs.Sheet.{semiAxisH94, component, componentH, total, semiAxesCIELAB, semiAxesCIE94, semiAxesCMC, semiAxes, shift, factorUnder, differences}
+use Rattle.sheet.specs.Sheet.{chroma, chromaOf, distance², change, semiAxisH, hueQ, hueW, hueSemiAxis, semiAxisC}
+use Rattle.sheet.specs.Sheet.{semiAxisC94}
+use Rattle.sheet.specs.Sheet.{semiAxisH94, component, componentH, total, semiAxesCIELAB, semiAxesCIE94}
+use Rattle.sheet.specs.Sheet.{semiAxesCMC, semiAxes, shift, factorUnder, differences}
 use Rattle.sheet.specs.Sheet.{sheet, compared, verdict}
-use Rattle.sheet.specs.Sheet.Laws.{chroma-pos, le-semiAxisL, le-semiAxisC, hueW-pos, hueSemiAxis-by-G, abs-change, hueChange-zero, abs-component}
+use Rattle.sheet.specs.Sheet.Laws.{chroma-pos, le-semiAxisL, le-semiAxisC, hueW-pos, hueSemiAxis-by-G, abs-change}
+use Rattle.sheet.specs.Sheet.Laws.{hueChange-zero, abs-component}
 use Rattle.sheet.specs.Sheet.Laws.{abs-componentH}
 use Rattle.sheet.specs.declared.semi_axes.SemiAxes.{SemiAxes}
 use Rattle.sheet.specs.declared.differences.Differences.{Differences}
@@ -92,9 +96,17 @@ module _ (n l S : ℕ) where
 
 shift-self : (R : Lab) → shift R R ≡ record { L = pos 0; C = pos 0; H = pos 0 }
 unfolding shift
-shift-self R = rw (change-self (R .L), change-self (chromaOf R), distance²-self (R .a) (R .b), hueChange-zero 0 (pos 0) _ _ zero-le)
+shift-self R =
+    rw (
+      change-self (R .L),
+      change-self (chromaOf R),
+      distance²-self (R .a) (R .b),
+      hueChange-zero 0 (pos 0) _ _ zero-le,
+    )
 
-pub sheet-self : (n : ℕ) (f : Formula) (l c : ℕ) (R : GridColour) → sheet n f l c R R ≡ record { DL = pos 0; DC = pos 0; DH = pos 0; DE = 0 }
+pub sheet-self :
+    (n : ℕ) (f : Formula) (l c : ℕ) (R : GridColour) →
+    sheet n f l c R R ≡ record { DL = pos 0; DC = pos 0; DH = pos 0; DE = 0 }
 unfolding sheet differences
 sheet-self n f l c R = simp (shift-self, component-zero, componentH-zero, total-zero)
 
@@ -182,11 +194,14 @@ pub compared-says : (n tolerance DE : ℕ) → Says n tolerance DE (compared n t
 unfolding compared
 compared-says n tolerance DE = near (leb ∣ change tolerance DE ∣ (2 * 2 ^ n)) refl
   where
-    far : 2 * 2 ^ n < ∣ change tolerance DE ∣ → (b : Bool) → ltb DE tolerance ≡ b → Says n tolerance DE (cond b Pass Fail)
+    far :
+        2 * 2 ^ n < ∣ change tolerance DE ∣ → (b : Bool) → ltb DE tolerance ≡ b → Says n tolerance DE (cond b Pass Fail)
     far h true e = omega (arith, abs-change tolerance DE, ltb-true DE tolerance e)
     far h false e = omega (arith, abs-change tolerance DE, ltb-false DE tolerance e)
 
-    near : (b : Bool) → leb ∣ change tolerance DE ∣ (2 * 2 ^ n) ≡ b → Says n tolerance DE (cond b Near (cond (ltb DE tolerance) Pass Fail))
+    near :
+        (b : Bool) → leb ∣ change tolerance DE ∣ (2 * 2 ^ n) ≡ b →
+        Says n tolerance DE (cond b Near (cond (ltb DE tolerance) Pass Fail))
     near true e =
         let h : ∣ change tolerance DE ∣ ≤ 2 * 2 ^ n = leb-true _ _ e in
         (omega (arith, abs-change tolerance DE), omega (arith, abs-change tolerance DE))

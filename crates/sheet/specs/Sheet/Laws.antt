@@ -3,7 +3,8 @@ use mathlib.Core.Path.{_≡_, refl, sym, ap, _∙_}
 use mathlib.Core.Bool.{Bool, true, false, cond}
 use mathlib.Core.Logic.{_⊎_, inl, inr}
 use Prim.Native.Nat.{ℕ, _+_, _-_, _*_, _/_, _^_, _≤_, _<_}
-use native.Mathlib.Nat.{eq-zero-or-pos, mul-pos, mul-le-mul, mul-le-mul-left, mul-le-mul-right, lt-of-mul-lt-mul-right, div-mul-le-self}
+use native.Mathlib.Nat.{eq-zero-or-pos, mul-pos, mul-le-mul, mul-le-mul-left, mul-le-mul-right, lt-of-mul-lt-mul-right}
+use native.Mathlib.Nat.{div-mul-le-self}
 use native.Mathlib.Nat.{lt-div-mul-add, mul-div-cancel, le-refl, le-trans}
 use native.Mathlib.Decide.{decLt}
 use lib.Pow.{pow-pos}
@@ -18,8 +19,10 @@ use Rattle.rounding.specs.Signed.Laws.{abs-add-le, abs-sub-le, abs-mul, abs-quo
 use Rattle.rounding.specs.Signed.{∣_∣, square, minus, signed, _·_}
 use Rattle.colour.specs.Conversion.{Lab}
 use Rattle.sheet.specs.Ranges.{Both}
-use Rattle.sheet.specs.Sheet.{chroma, chromaOf, sameHue, hueChange, semiAxisL, semiAxisC, hueQ, hueW, hueF, secondForm, hueM, hueT, hueP, hueG, semiAxisH, hueSemiAxis}
-use Rattle.sheet.specs.Sheet.{semiAxesCIELAB, semiAxesCIE94, semiAxesCMC, semiAxes, change, component, componentH, compared, verdict, differenceOn, toleranceOn, verdictOn}
+use Rattle.sheet.specs.Sheet.{chroma, chromaOf, sameHue, hueChange, semiAxisL, semiAxisC, hueQ, hueW, hueF}
+use Rattle.sheet.specs.Sheet.{secondForm, hueM, hueT, hueP, hueG, semiAxisH, hueSemiAxis}
+use Rattle.sheet.specs.Sheet.{semiAxesCIELAB, semiAxesCIE94, semiAxesCMC, semiAxes, change, component, componentH}
+use Rattle.sheet.specs.Sheet.{compared, verdict, differenceOn, toleranceOn, verdictOn}
 use Rattle.sheet.specs.declared.formula.Formula.{Formula}
 use Rattle.sheet.specs.declared.formula.Formula.the-variants.{CIELAB, CIE94, CMC}
 use Rattle.sheet.specs.declared.verdict.Verdict.the-variants.{Near, Pass, Fail}
@@ -29,7 +32,9 @@ use Rattle.sheet.specs.declared.verdict.Verdict.the-variants.{Near, Pass
 module _ (a b : ℤ) where
   pub chroma-lt : Both (2 ^ 28) a b → chroma a b < 2 ^ 29
   unfolding chroma
-  chroma-lt h = root-lt 2 _ (2 ^ 29) (omega arith) (omega (arith, mul-le-mul (h .first) (h .first), mul-le-mul (h .second) (h .second)))
+  chroma-lt h =
+      root-lt 2 _ (2 ^ 29) (omega arith)
+      (omega (arith, mul-le-mul (h .first) (h .first), mul-le-mul (h .second) (h .second)))
 
   pub abs-a-le-chroma : ∣ a ∣ ≤ chroma a b
   unfolding chroma
@@ -70,7 +75,8 @@ module _ (n : ℕ) {L : ℕ} where
 le-light : (u L : ℕ) → 0 < u → 16 * u ≤ L → 511 * u / 1000 ≤ 40975 * L * u / (1000000 * u + 17650 * L)
 le-light u L hu h =
     let q = div-mul-le-self (511 * u) 1000 in
-    le-div _ _ _ (omega arith) (omega (arith, mul-le-mul-right (1000 * u) q, mul-le-mul-right (18 * L) q, mul-le-mul-right u h))
+    le-div _ _ _ (omega arith)
+    (omega (arith, mul-le-mul-right (1000 * u) q, mul-le-mul-right (18 * L) q, mul-le-mul-right u h))
 
 light-le : (u L : ℕ) → 0 < u → 40975 * L * u / (1000000 * u + 17650 * L) ≤ 3 * u
 light-le u L hu = div-le _ _ _ (omega arith) (omega arith)
@@ -81,7 +87,8 @@ module _ (n L : ℕ) where
     where
       either : Dec (L < 16 * 2 ^ n) → 511 * 2 ^ n / 1000 ≤ semiAxisL n L
       either (yes h) = rw (semiAxisL-dark n h) (le-refl _)
-      either (no h) = let g : 16 * 2 ^ n ≤ L = omega arith in rw (semiAxisL-light n g) (le-light (2 ^ n) L (pow-pos n) g)
+      either (no h) =
+          let g : 16 * 2 ^ n ≤ L = omega arith in rw (semiAxisL-light n g) (le-light (2 ^ n) L (pow-pos n) g)
 
   pub semiAxisL-le : semiAxisL n L ≤ 3 * 2 ^ n
   semiAxisL-le = either (decLt L (16 * 2 ^ n))
@@ -130,9 +137,23 @@ abs-times k z = abs-mul (pos k) z
 pub hueM-le : (second : Bool) (a b : ℤ) → hueM second a b ≤ 139272848 * chroma a b
 unfolding hueM
 hueM-le false a b =
-    omega (arith, abs-sub-le (81915204 · a) (57357644 · b), abs-times 81915204 a, abs-times 57357644 b, abs-a-le-chroma a b, abs-b-le-chroma a b)
+    omega (
+      arith,
+      abs-sub-le (81915204 · a) (57357644 · b),
+      abs-times 81915204 a,
+      abs-times 57357644 b,
+      abs-a-le-chroma a b,
+      abs-b-le-chroma a b,
+    )
 hueM-le true a b =
-    omega (arith, abs-add-le (97814760 · a) (20791169 · b), abs-times 97814760 a, abs-times 20791169 b, abs-a-le-chroma a b, abs-b-le-chroma a b)
+    omega (
+      arith,
+      abs-add-le (97814760 · a) (20791169 · b),
+      abs-times 97814760 a,
+      abs-times 20791169 b,
+      abs-a-le-chroma a b,
+      abs-b-le-chroma a b,
+    )
 
 module _ (n M C : ℕ) (some : 0 < C) where
   pub hueT-le : (second : Bool) → M ≤ 139272848 * C → hueT n second M C ≤ 2 ^ n
@@ -142,10 +163,13 @@ module _ (n M C : ℕ) (some : 0 < C) where
 
   pub le-hueT : (second : Bool) → 36 * 2 ^ n / 100 ≤ hueT n second M C
   unfolding hueT
-  le-hueT false = le-div _ _ _ (omega arith) (omega (arith, mul-le-mul-right (10000000 * C) (div-mul-le-self (36 * 2 ^ n) 100)))
-  le-hueT true = le-div _ _ _ (omega arith) (omega (arith, mul-le-mul-right (10000000 * C) (div-mul-le-self (36 * 2 ^ n) 100)))
+  le-hueT false =
+      le-div _ _ _ (omega arith) (omega (arith, mul-le-mul-right (10000000 * C) (div-mul-le-self (36 * 2 ^ n) 100)))
+  le-hueT true =
+      le-div _ _ _ (omega arith) (omega (arith, mul-le-mul-right (10000000 * C) (div-mul-le-self (36 * 2 ^ n) 100)))
 
-pub hueT-of-le : (n : ℕ) (a b : ℤ) {C : ℕ} → C ≡ chroma a b → 0 < C → (second : Bool) → hueT n second (hueM second a b) C ≤ 2 ^ n
+pub hueT-of-le :
+    (n : ℕ) (a b : ℤ) {C : ℕ} → C ≡ chroma a b → 0 < C → (second : Bool) → hueT n second (hueM second a b) C ≤ 2 ^ n
 hueT-of-le n a b {C} is some second = hueT-le n (hueM second a b) C some second (rw is (hueM-le second a b))
 
 -- ---- line 7: T is at most G, and G at most 1
@@ -164,12 +188,20 @@ module _ (n : ℕ) {F T : ℕ} (hF : F ≤ 2 ^ n) (hT : T ≤ 2 ^ n) where
   product = both (2 ^ n - F) (2 ^ n - T) (2 ^ n) (omega arith) (omega arith)
     where
       both : (x y u : ℕ) → u ≡ F + x → u ≡ T + y → F * u + u * T ≤ u * u + F * T
-      both x y u e g = omega (arith, ap (λ (z : ℕ). z * x) g, ap (λ (z : ℕ). z * T) e, ap (λ (z : ℕ). z * F) e, ap (λ (z : ℕ). z * u) e)
+      both x y u e g =
+          omega (
+            arith,
+            ap (λ (z : ℕ). z * x) g,
+            ap (λ (z : ℕ). z * T) e,
+            ap (λ (z : ℕ). z * F) e,
+            ap (λ (z : ℕ). z * u) e,
+          )
 
   pub le-hueG : T ≤ hueG n (hueP n F T) F
   unfolding hueG hueP
   le-hueG =
-      let sum : T + F < F * T / 2 ^ n + 2 ^ n + 1 = lt-of-mul-lt-mul-right (2 ^ n) (omega (arith, product, lt-div-mul-add {a = F * T} (pow-pos n))) in
+      let sum : T + F < F * T / 2 ^ n + 2 ^ n + 1 =
+      lt-of-mul-lt-mul-right (2 ^ n) (omega (arith, product, lt-div-mul-add {a = F * T} (pow-pos n))) in
       omega arith
 
 -- SH is at most SC
@@ -212,7 +244,13 @@ hueSemiAxis-by-G n a b SC = either (eq-zero-or-pos (square a + square b))
   where
     either : (square a + square b ≡ 0) ⊎ (0 < square a + square b) → ByG n a b SC
     either (inl z) =
-        record { G = 2 ^ n; low = omega arith; high = le-refl (2 ^ n); is = hueSemiAxis-neutral n a b (chroma a b) SC z ∙ semiAxisH-one n SC }
+        record {
+          G = 2 ^ n;
+          low = omega arith;
+          high = le-refl (2 ^ n);
+          is = hueSemiAxis-neutral n a b (chroma a b) SC z
+              ∙ semiAxisH-one n SC;
+        }
     either (inr p) =
         let s : Bool = secondForm a b in
         let F≤1 = hueF-le n (hueQ n a b) in
@@ -244,7 +282,8 @@ change-le m {R} {T} h g = omega (arith, abs-change R T)
 -- no change where ΔC² is not below D²
 pub hueChange-zero : (D² : ℕ) (ΔC x y : ℤ) → D² ≤ square ΔC → hueChange D² ΔC x y ≡ pos 0
 unfolding hueChange
-hueChange-zero D² ΔC x y h = let none : D² - square ΔC ≡ 0 = omega arith in rw (none, root-at 2 0 0 tt tt tt) (either (sameHue x y) (minus x))
+hueChange-zero D² ΔC x y h =
+    let none : D² - square ΔC ≡ 0 = omega arith in rw (none, root-at 2 0 0 tt tt tt) (either (sameHue x y) (minus x))
   where
     either : (same below : Bool) → cond same (pos 0) (signed below 0) ≡ pos 0
     either true below = refl
@@ -277,7 +316,9 @@ module _ (n tolerance DE : ℕ) where
   compared-fail h g = rw (lt-leb _ _ h, le-ltb _ _ g)
 
 -- a tolerance and a DE of one formula are compared, whichever it is
-pub one-scale : (n : ℕ) (f : Formula) (tolerance DE : ℕ) → verdictOn n (toleranceOn n f tolerance) (differenceOn f DE) ≡ verdict n tolerance DE
+pub one-scale :
+    (n : ℕ) (f : Formula) (tolerance DE : ℕ) → verdictOn n (toleranceOn n f tolerance) (differenceOn f DE)
+    ≡ verdict n tolerance DE
 unfolding verdictOn verdict
 one-scale n CIELAB tolerance DE = refl
 one-scale n CIE94 tolerance DE = refl

@@ -1,4 +1,5 @@
--- `conversion::f_high` meets its contract. Assumes nothing.
+-- `conversion::f_high` meets its contract: the root of the fraction at 60 places, which is in the reach of long
+-- division. Assumes nothing.
 use mathlib.Core.Path.{ap, _∙_}
 use borrow.Author.Needs.{needs}
 use Rattle.rounding.specs.Root.{rootOf}

@@ -1,4 +1,4 @@
--- `conversion::f_low` meets its contract. Assumes nothing.
+-- `conversion::f_low` meets its contract: one fraction at 20 places, whose parts fit 64 bits. Assumes nothing.
 use borrow.Author.Needs.{needs}
 use Rattle.colour.specs.Conversion.{fLow}
 use Rattle.colour.proofs.conversion.f_low.Statement.{statement}

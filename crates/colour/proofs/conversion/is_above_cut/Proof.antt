@@ -1,4 +1,5 @@
--- `conversion::is_above_cut` meets its contract. Assumes nothing.
+-- `conversion::is_above_cut` meets its contract: both products fit 64 bits, and the test is the definition's.
+-- Assumes nothing.
 use mathlib.Core.Path.{refl}
 use borrow.Author.Needs.{needs}
 use Rattle.colour.specs.Conversion.{aboveCut}

@@ -1,4 +1,5 @@
--- `conversion::lightness_of` meets its contract: each way out is one side of the cut, and above it 116 f is at least 16. Assumes nothing.
+-- `conversion::lightness_of` meets its contract: each way out is one side of the cut, and above it 116 f is at least
+-- 16. Assumes nothing.
 use mathlib.Core.Bool.{true}
 use mathlib.Core.Path.{_≡_, sym, ap, _∙_}
 use Prim.Native.Nat.{ℕ, _-_, _*_, _≤_, _<_}
@@ -24,12 +25,14 @@ module _ (c : tie.Then1) where
   le-fy = rw (start .pre .is-f) (le-f _ _ (start .pre .reach) above)
 
 high : tie.Need-returns
-high c = ap (λ (f : ℕ). 116 * f - 16777216) (start c .pre .is-f) ∙ sym (lightness-above _ _ (start c .pre .reach) (above c))
+high c =
+    ap (λ (f : ℕ). 116 * f - 16777216) (start c .pre .is-f) ∙ sym (lightness-above _ _ (start c .pre .reach) (above c))
 
 low : tie.Need-returns-2
 low c =
     let at-cut = c .before .before in
-    c .fraction .ensures ∙ sym (lightness-below _ _ (at-cut .before .pre .reach) (sym (at-cut .is-above-cut .ensures) ∙ c .before .if1 .left))
+    c .fraction .ensures ∙ sym (lightness-below _ _ (at-cut .before .pre .reach)
+    (sym (at-cut .is-above-cut .ensures) ∙ c .before .if1 .left))
 
 pub lightness-of-spec : {M : Type 1} → statement M
 lightness-of-spec =

@@ -28,7 +28,9 @@ less-is c =
     c .less .ensures ∙ ap₂ _-ℤ_ p-is q-is
 
 less-requires : tie.Need-less-requires
-less-requires c κs = rw (toZ-pos w64 {n = c .args .p} (omega arith), toZ-pos w64 {n = c .args .q} (omega arith)) (omega (arith, less-le (c .pre)))
+less-requires c κs =
+    rw (toZ-pos w64 {n = c .args .p} (omega arith), toZ-pos w64 {n = c .args .q} (omega arith))
+    (omega (arith, less-le (c .pre)))
 
 product-requires : tie.Need-product-requires
 product-requires c κs =

@@ -13,13 +13,15 @@ beyond-b : tie.Need-returns-2
 beyond-b c =
     let at-b = c .before in
     let in-a = at-b .before in
-    sym (accepted-beyond-b _ (sym (in-a .before .is-opponent .ensures) ∙ not-false _ (in-a .if1 .left)) (sym (at-b .is-opponent2 .ensures) ∙ not-true _ (c .if2 .taken)))
+    sym (accepted-beyond-b _ (sym (in-a .before .is-opponent .ensures) ∙ not-false _ (in-a .if1 .left))
+    (sym (at-b .is-opponent2 .ensures) ∙ not-true _ (c .if2 .taken)))
 
 placed : tie.Need-returns-3
 placed c =
     let at-b = c .before in
     let in-a = at-b .before in
-    sym (accepted-at _ (sym (in-a .before .is-opponent .ensures) ∙ not-false _ (in-a .if1 .left)) (sym (at-b .is-opponent2 .ensures) ∙ not-false _ (c .if2 .left)))
+    sym (accepted-at _ (sym (in-a .before .is-opponent .ensures) ∙ not-false _ (in-a .if1 .left))
+    (sym (at-b .is-opponent2 .ensures) ∙ not-false _ (c .if2 .left)))
 
 pub accepted-colour-spec : {M : Type 1} → statement M
 accepted-colour-spec = tie.close (tie.spec (λ c κs. search needs) beyond-a (λ c κs. search needs) beyond-b placed)

@@ -18,11 +18,13 @@ use Rattle.colour.proofs.placed.converted_colour.Statement.{statement}
 use Rattle.colour.proofs.placed.converted_colour.Tie as tie
 
 -- the conversion of three magnitudes X, Y, Z against the values v of a white w
-module _ (x y z : ℤ) (w : White) {X Y Z : ℕ} {v : TristimulusValues} (ex : X ≡ ∣ x ∣) (ey : Y ≡ ∣ y ∣) (ez : Z ≡ ∣ z ∣) (ev : v ≡ whiteOf w) where
+module _ (x y z : ℤ) (w : White) {X Y Z : ℕ} {v : TristimulusValues} (ex : X ≡ ∣ x ∣) (ey : Y ≡ ∣ y ∣) (ez : Z ≡ ∣ z ∣)
+    (ev : v ≡ whiteOf w) where
   in-reach : Millionths x y z → Measured (record { X = X; Y = Y; Z = Z }) v
   in-reach h = rw (ex, ey, ez, ev) (measured w (h .X) (h .Y) (h .Z))
 
-  converted-is : {c : GridColour} → c ≡ gridColour (convert 20 bs6923 v (record { X = X; Y = Y; Z = Z })) → c ≡ converted w x y z
+  converted-is :
+      {c : GridColour} → c ≡ gridColour (convert 20 bs6923 v (record { X = X; Y = Y; Z = Z })) → c ≡ converted w x y z
   converted-is ec = cc
 
 module _ (c : tie.After-tristimulus) where
@@ -53,7 +55,8 @@ returns : tie.Need-returns
 returns c =
     let w = c .before in
     let a = at-x w .before .args in
-    converted-is (a .x) (a .y) (a .z) (a .white) (x-is w) (y-is w) (z-is w) (w .tristimulus .ensures) (c .grid-colour .ensures)
+    converted-is (a .x) (a .y) (a .z) (a .white) (x-is w) (y-is w) (z-is w) (w .tristimulus .ensures)
+    (c .grid-colour .ensures)
 
 pub converted-colour-spec : {M : Type 1} → statement M
 converted-colour-spec =

@@ -35,13 +35,15 @@ third : tie.Need-returns-3
 third c =
     let past = c .before .before in
     let a = past-u past .before .before .args in
-    sym (fault-third (a .u) (a .v) (a .w) (u-finite (past-u past)) (v-finite past) (sym (c .before .is-not-finite3 .ensures) ∙ c .if3 .taken))
+    sym (fault-third (a .u) (a .v) (a .w) (u-finite (past-u past)) (v-finite past)
+    (sym (c .before .is-not-finite3 .ensures) ∙ c .if3 .taken))
 
 none : tie.Need-returns-4
 none c =
     let past = c .before .before in
     let a = past-u past .before .before .args in
-    sym (fault-none (a .u) (a .v) (a .w) (u-finite (past-u past)) (v-finite past) (sym (c .before .is-not-finite3 .ensures) ∙ c .if3 .left))
+    sym (fault-none (a .u) (a .v) (a .w) (u-finite (past-u past)) (v-finite past)
+    (sym (c .before .is-not-finite3 .ensures) ∙ c .if3 .left))
 
 pub fault-of-spec : {M : Type 1} → statement M
 fault-of-spec =

@@ -24,7 +24,8 @@ third-refused c =
     let at-w = c .before in
     let at-v = at-w .before .before in
     let at-u = at-v .before .before .before in
-    take-third-refused placeLab _ _ _ (at-u .u .given .1) (at-v .v .given .1) (no-units _ (at-w .match3 .keys2)) (c .fault-of3 .ensures)
+    take-third-refused placeLab _ _ _ (at-u .u .given .1) (at-v .v .given .1) (no-units _ (at-w .match3 .keys2))
+    (c .fault-of3 .ensures)
 
 placed-is : {l a b L A B : ℤ} → L ≡ l → A ≡ a → B ≡ b → placeLab L A B ≡ placeLab l a b
 placed-is el ea eb = cc

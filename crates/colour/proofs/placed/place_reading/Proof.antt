@@ -1,4 +1,5 @@
--- `placed::place_reading` meets its contract: each arm reads the three numbers of its kind, and their units are placed. Assumes nothing.
+-- `placed::place_reading` meets its contract: each arm reads the three numbers of its kind, and their units are placed.
+-- Assumes nothing.
 use mathlib.Core.Path.{sym, ap, _∙_}
 use borrow.Author.Needs.{needs}
 use Rattle.reading.specs.Reading.{floatUnits}
@@ -13,7 +14,8 @@ place-xyz-requires : tie.Need-place-xyz-requires
 place-xyz-requires c κs =
     let at-y = c .before in
     let at-x = at-y .before in
-    xyz-within floatUnits float-units-within _ _ _ (at-x .float-units .ensures) (at-y .float-units2 .ensures) (c .float-units3 .ensures)
+    xyz-within floatUnits float-units-within _ _ _ (at-x .float-units .ensures) (at-y .float-units2 .ensures)
+    (c .float-units3 .ensures)
 
 xyz : tie.Need-returns
 unfolding place
@@ -22,7 +24,8 @@ xyz c =
     let at-y = at-z .before in
     let at-x = at-y .before in
     let arm = at-x .before .before in
-    take-xyz-is floatUnits _ _ _ _ (at-x .float-units .ensures) (at-y .float-units2 .ensures) (at-z .float-units3 .ensures) (c .place-xyz .ensures)
+    take-xyz-is floatUnits _ _ _ _ (at-x .float-units .ensures) (at-y .float-units2 .ensures)
+    (at-z .float-units3 .ensures) (c .place-xyz .ensures)
     ∙ sym (ap (place _) (arm .r .given .1))
 
 lab : tie.Need-returns-2
@@ -32,7 +35,8 @@ lab c =
     let at-a = at-b .before in
     let at-l = at-a .before in
     let arm = at-l .before .before in
-    take-lab-is floatUnits _ _ _ (at-l .float-units4 .ensures) (at-a .float-units5 .ensures) (at-b .float-units6 .ensures) (c .place-lab .ensures)
+    take-lab-is floatUnits _ _ _ (at-l .float-units4 .ensures) (at-a .float-units5 .ensures)
+    (at-b .float-units6 .ensures) (c .place-lab .ensures)
     ∙ sym (ap (place _) (arm .r2 .given .1))
 
 pub place-reading-spec : {M : Type 1} → statement M

@@ -1,4 +1,5 @@
--- `placed::place_written` meets its contract: each arm reads the three numbers of its kind, and their units are placed. Assumes nothing.
+-- `placed::place_written` meets its contract: each arm reads the three numbers of its kind, and their units are placed.
+-- Assumes nothing.
 use mathlib.Core.Path.{sym, ap, _∙_}
 use borrow.Author.Needs.{needs}
 use Rattle.reading.specs.Reading.{decimalUnits}
@@ -13,7 +14,8 @@ place-xyz-requires : tie.Need-place-xyz-requires
 place-xyz-requires c κs =
     let at-y = c .before in
     let at-x = at-y .before in
-    xyz-within decimalUnits decimal-units-within _ _ _ (at-x .decimal-units .ensures) (at-y .decimal-units2 .ensures) (c .decimal-units3 .ensures)
+    xyz-within decimalUnits decimal-units-within _ _ _ (at-x .decimal-units .ensures) (at-y .decimal-units2 .ensures)
+    (c .decimal-units3 .ensures)
 
 xyz : tie.Need-returns
 unfolding placeWritten
@@ -22,7 +24,8 @@ xyz c =
     let at-y = at-z .before in
     let at-x = at-y .before in
     let arm = at-x .before .before in
-    take-xyz-is decimalUnits _ _ _ _ (at-x .decimal-units .ensures) (at-y .decimal-units2 .ensures) (at-z .decimal-units3 .ensures) (c .place-xyz .ensures)
+    take-xyz-is decimalUnits _ _ _ _ (at-x .decimal-units .ensures) (at-y .decimal-units2 .ensures)
+    (at-z .decimal-units3 .ensures) (c .place-xyz .ensures)
     ∙ sym (ap (placeWritten _) (arm .r .given .1))
 
 lab : tie.Need-returns-2
@@ -32,7 +35,8 @@ lab c =
     let at-a = at-b .before in
     let at-l = at-a .before in
     let arm = at-l .before .before in
-    take-lab-is decimalUnits _ _ _ (at-l .decimal-units4 .ensures) (at-a .decimal-units5 .ensures) (at-b .decimal-units6 .ensures) (c .place-lab .ensures)
+    take-lab-is decimalUnits _ _ _ (at-l .decimal-units4 .ensures) (at-a .decimal-units5 .ensures)
+    (at-b .decimal-units6 .ensures) (c .place-lab .ensures)
     ∙ sym (ap (placeWritten _) (arm .r2 .given .1))
 
 pub place-written-spec : {M : Type 1} → statement M

@@ -20,14 +20,16 @@ second-refused : tie.Need-returns-2
 second-refused c =
     let at-v = c .before in
     let at-u = at-v .before .before in
-    take-second-refused (placeXyz _) _ _ _ (at-u .u .given .1) (no-units _ (at-v .match2 .keys2)) (c .fault-of2 .ensures)
+    take-second-refused (placeXyz _) _ _ _ (at-u .u .given .1) (no-units _ (at-v .match2 .keys2))
+    (c .fault-of2 .ensures)
 
 third-refused : tie.Need-returns-3
 third-refused c =
     let at-w = c .before in
     let at-v = at-w .before .before in
     let at-u = at-v .before .before .before in
-    take-third-refused (placeXyz _) _ _ _ (at-u .u .given .1) (at-v .v .given .1) (no-units _ (at-w .match3 .keys2)) (c .fault-of3 .ensures)
+    take-third-refused (placeXyz _) _ _ _ (at-u .u .given .1) (at-v .v .given .1) (no-units _ (at-w .match3 .keys2))
+    (c .fault-of3 .ensures)
 
 -- ---- the units of all three
 module _ (c : tie.After-known-told3) where
@@ -51,7 +53,8 @@ module _ (c : tie.After-known-told3) where
 
 converted-requires : tie.Need-converted-colour-requires
 converted-requires c κs =
-    rw (x-back c, y-back c, z-back c) (at-u c .before .before .pre .within _ _ _ (at-u c .u .given .1) (at-v c .v .given .1) (at-w c .w .given .1))
+    rw (x-back c, y-back c, z-back c)
+    (at-u c .before .before .pre .within _ _ _ (at-u c .u .given .1) (at-v c .v .given .1) (at-w c .w .given .1))
 
 placed-is :
     (white : White) {x y z X Y Z : ℤ} {c : GridColour} {p : Placed} →
@@ -63,7 +66,8 @@ placed c =
     let at-converted = c .before in
     let all = at-converted .before in
     take-handed (placeXyz _) _ _ _ (at-u all .u .given .1) (at-v all .v .given .1) (at-w all .w .given .1)
-    (placed-is _ (x-back all) (y-back all) (z-back all) (at-converted .converted-colour .ensures) (c .accepted-colour .ensures))
+    (placed-is _ (x-back all) (y-back all) (z-back all) (at-converted .converted-colour .ensures)
+    (c .accepted-colour .ensures))
 
 pub place-xyz-spec : {M : Type 1} → statement M
 place-xyz-spec =

@@ -1,4 +1,5 @@
--- `comparison::comparison_of` meets its contract: the sheet, a part a call; the reference's C is that of its semi-axes. Assumes nothing.
+-- `comparison::comparison_of` meets its contract: the sheet, a part a call; the reference's C is that of its semi-axes.
+-- Assumes nothing.
 use mathlib.Core.Path.{_≡_, ap, _∙_}
 use borrow.Author.Needs.{needs}
 use mir.Syntax.{w64}
@@ -42,7 +43,9 @@ at-hand c κs =
     record {
       R = s .pre .reference;
       T = s .pre .specimen;
-      CR = ap (λ (x : SemiAxes). x .C) (at-semi-axes c .semi-axes-of .ensures) ∙ semi-axes-C 20 (s .args .formula) (atPlaces 20 (s .args .r));
+      CR =
+          ap (λ (x : SemiAxes). x .C) (at-semi-axes c .semi-axes-of .ensures)
+          ∙ semi-axes-C 20 (s .args .formula) (atPlaces 20 (s .args .r));
       CT = at-chroma c .chroma-of .ensures;
       cross = cross-is c;
       dot = dot-is c;
@@ -59,11 +62,14 @@ module _ (c : tie.After-factor2) where
   abbrev at-dot : tie.After-dot-of
   at-dot = at-shift .before
 
-found : (c : tie.After-differences-of) → let s = start (at-dot (c .before)) .args in c .differences-of .result ≡ sheet 20 (s .formula) (s .l) (s .c) (s .r) (s .t)
+found :
+    (c : tie.After-differences-of) → let s = start (at-dot (c .before)) .args in c .differences-of .result
+    ≡ sheet 20 (s .formula) (s .l) (s .c) (s .r) (s .t)
 found c =
     let k = c .before in
     let s = start (at-dot k) .args in
-    sheet-is (s .formula) (s .l) (s .c) (s .r) (s .t) (at-semi-axes (at-dot k) .semi-axes-of .ensures) (at-shift k .shift-with .ensures)
+    sheet-is (s .formula) (s .l) (s .c) (s .r) (s .t) (at-semi-axes (at-dot k) .semi-axes-of .ensures)
+    (at-shift k .shift-with .ensures)
     (at-l k .factor .ensures) (k .factor2 .ensures) (c .differences-of .ensures)
 
 in-range : tie.Need-differences-of-requires
@@ -85,7 +91,8 @@ returns c =
     let k = d .before in
     let at-y = at-dot k in
     let s = start at-y .args in
-    comparison-is (s .formula) (s .l) (s .c) (s .r) (s .t) (at-chroma at-y .chroma-of .ensures) (at-shift k .shift-with .ensures)
+    comparison-is (s .formula) (s .l) (s .c) (s .r) (s .t) (at-chroma at-y .chroma-of .ensures)
+    (at-shift k .shift-with .ensures)
     (cross-is at-y) (dot-is at-y) (found d) (c .difference .ensures)
 
 pub comparison-of-spec : {M : Type 1} → statement M

@@ -16,4 +16,5 @@ returns c =
     back ∙ (rw (toZ-ofZ (c .before .fits .z)) at (c .quotient .ensures))
 
 pub component-h-spec : {M : Type 1} → statement M
-component-h-spec = tie.close (tie.spec (λ c κs. rw (toZ-ofZ (c .fits .z)) (omega arith, omega arith, omega arith)) returns)
+component-h-spec =
+    tie.close (tie.spec (λ c κs. rw (toZ-ofZ (c .fits .z)) (omega arith, omega arith, omega arith)) returns)

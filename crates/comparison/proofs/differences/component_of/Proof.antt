@@ -1,4 +1,5 @@
--- `differences::component_of` meets its contract: l·SL is above 0 and fits, and so does 1000·ΔL at 20 places. Assumes nothing.
+-- `differences::component_of` meets its contract: l·SL is above 0 and fits, and so does 1000·ΔL at 20 places.
+-- Assumes nothing.
 use mathlib.Core.Path.{_≡_, _∙_}
 use Prim.Native.Nat.{ℕ, _*_, _^_, _≤_, _<_}
 use native.Mathlib.Nat.{mul-le-mul, mul-pos}

@@ -1,4 +1,5 @@
--- `differences::differences_of` meets its contract: line 8, a quantity a call; the three fit by `components-fit`. Assumes nothing.
+-- `differences::differences_of` meets its contract: line 8, a quantity a call; the three fit by `components-fit`.
+-- Assumes nothing.
 use mathlib.Core.Path.{_≡_, _∙_}
 use native.Mathlib.Omega.{arith}
 use borrow.Author.Needs.{needs}
@@ -24,7 +25,9 @@ module _ (c : tie.After-component-of2) where
   abbrev at-dl : tie.After-component-of
   at-dl = c .before .before
 
-  dc-is : let s = start at-dl .args in toZ w64 (ofZ w64 (c .component-of2 .result)) ≡ component 20 (s .c) (s .s .SC) (s .z .C)
+  dc-is :
+      let s = start at-dl .args in toZ w64 (ofZ w64 (c .component-of2 .result))
+      ≡ component 20 (s .c) (s .s .SC) (s .z .C)
   dc-is =
       let s = start at-dl .args in
       let back : toZ w64 (ofZ w64 (c .component-of2 .result)) ≡ c .component-of2 .result = search needs in
@@ -35,7 +38,9 @@ module _ (c : tie.After-component-h) where
   abbrev at-dc : tie.After-component-of2
   at-dc = c .before .before
 
-  dh-is : let s = start (at-dl at-dc) .args in toZ w64 (ofZ w64 (c .component-h .result)) ≡ componentH 20 (s .s .SH) (s .z .H)
+  dh-is :
+      let s = start (at-dl at-dc) .args in toZ w64 (ofZ w64 (c .component-h .result))
+      ≡ componentH 20 (s .s .SH) (s .z .H)
   dh-is =
       let s = start (at-dl at-dc) .args in
       let back : toZ w64 (ofZ w64 (c .component-h .result)) ≡ c .component-h .result = search needs in
@@ -57,7 +62,8 @@ component-h-requires c κs =
 total-of-requires : tie.Need-total-of-requires
 total-of-requires c κs =
     let s = start (at-dl (at-dc c)) in
-    rw (dl-is (at-dl (at-dc c)), dc-is (at-dc c), dh-is c) (components-fit (s .pre .0) (s .pre .1) (s .pre .2) (s .pre .3))
+    rw (dl-is (at-dl (at-dc c)), dc-is (at-dc c), dh-is c)
+    (components-fit (s .pre .0) (s .pre .1) (s .pre .2) (s .pre .3))
 
 returns : tie.Need-returns
 unfolding differences

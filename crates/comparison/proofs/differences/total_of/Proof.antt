@@ -19,22 +19,27 @@ squares-lt h = omega (arith, mul-le-mul (h .L) (h .L), mul-le-mul (h .C) (h .C),
 size-is : (c : tie.After-magnitude) → c .magnitude .result ≡ ∣ c .before .args .dh ∣
 size-is c = rw (toZ-ofZ (c .before .fits .dh)) at (c .magnitude .ensures)
 
-squares-is : (c : tie.After-squares) → let s = c .before .before .args in c .squares .result ≡ square (s .dl) + square (s .dc)
+squares-is :
+    (c : tie.After-squares) → let s = c .before .before .args in c .squares .result ≡ square (s .dl) + square (s .dc)
 squares-is c = let s = c .before .before in simp (toZ-ofZ, s .fits .dl, s .fits .dc) at (c .squares .ensures)
 
-sum-lt : (c : tie.After-squares) → c .squares .result + c .before .magnitude .result * c .before .magnitude .result < 2 ^ 64
+sum-lt :
+    (c : tie.After-squares) → c .squares .result + c .before .magnitude .result * c .before .magnitude .result < 2 ^ 64
 sum-lt c = rw (squares-is c, size-is (c .before)) (squares-lt (c .before .before .pre))
 
 returns : tie.Need-returns
 unfolding total
-returns c = c .square-root .ensures ∙ ap₂ (λ (x m : ℕ). rootOf 2 (x + m * m)) (squares-is (c .before)) (size-is (c .before .before))
+returns c =
+    c .square-root .ensures ∙ ap₂ (λ (x m : ℕ). rootOf 2 (x + m * m)) (squares-is (c .before))
+    (size-is (c .before .before))
 
 pub total-of-spec : {M : Type 1} → statement M
 total-of-spec =
     tie.close
     (tie.spec
     (λ c κs. search needs)
-    (λ c κs. simp (toZ-ofZ, c .before .fits .dl, c .before .fits .dc) (record { first = omega arith; second = omega arith }))
+    (λ c κs. simp (toZ-ofZ, c .before .fits .dl, c .before .fits .dc)
+    (record { first = omega arith; second = omega arith }))
     (λ c. omega (arith, sum-lt c))
     (λ c. omega (arith, sum-lt c))
     (λ c κs. search needs)

@@ -1,4 +1,5 @@
--- `shift::hue_change` meets its contract: no change in the same hue or where D² is below ΔC², else the root, which is below 2^33. Assumes nothing.
+-- `shift::hue_change` meets its contract: no change in the same hue or where D² is below ΔC², else the root, which is
+-- below 2^33. Assumes nothing.
 use mathlib.Core.Path.{_≡_, sym, ap, ap₂, _∙_}
 use Prim.Native.Nat.{ℕ, _-_, _*_, _^_, _≤_}
 use native.Mathlib.Nat.{mul-le-mul, le-of-lt}
@@ -50,7 +51,8 @@ module _ (c : tie.After-square-root) where
   at-size = c .before .before
 
   root-is : let s = start at-size .args in c .square-root .result ≡ rootOf 2 (s .d2 - square (s .dc))
-  root-is = let s = start at-size .args in c .square-root .ensures ∙ ap (λ (m : ℕ). rootOf 2 (s .d2 - m)) (square-is at-size)
+  root-is =
+      let s = start at-size .args in c .square-root .ensures ∙ ap (λ (m : ℕ). rootOf 2 (s .d2 - m)) (square-is at-size)
 
 root-fits : tie.Need-with-sign-requires
 root-fits c κs =

@@ -1,4 +1,5 @@
--- `shift::shift_by` meets its contract: chromas below 2^31 differ by less, and each of the three is the definition's. Assumes nothing.
+-- `shift::shift_by` meets its contract: chromas below 2^31 differ by less, and each of the three is the definition's.
+-- Assumes nothing.
 use mathlib.Core.Path.{_≡_, _∙_}
 use Prim.Native.Nat.{_^_}
 use native.Mathlib.Nat.{le-of-lt}

@@ -52,7 +52,8 @@ module _ (c : tie.After-distance-squared) where
   lt-is : at-test .magnitude2 .result ≡ ∣ start .args .t .L .0 ∣
   lt-is = at-test .magnitude2 .ensures ∙ ap (λ (z : ℤ). ∣ z ∣) (L-back (start .pre .T))
 
-  d2-is : let s = start .args in c .distance-squared .result ≡ distance² (s .r .a .0) (s .r .b .0) (s .t .a .0) (s .t .b .0)
+  d2-is :
+      let s = start .args in c .distance-squared .result ≡ distance² (s .r .a .0) (s .r .b .0) (s .t .a .0) (s .t .b .0)
   d2-is =
       let p = start .pre in
       rw (a-back (p .R), b-back (p .R), a-back (p .T), b-back (p .T)) at (c .distance-squared .ensures)
@@ -71,7 +72,8 @@ returns c =
     let at-d2 = c .before in
     let s = start at-d2 in
     let p = s .pre in
-    shift-is _ _ (lr-is at-d2) (lt-is at-d2) (p .CR) (p .CT) (d2-is at-d2) (toZ-ofZ (s .fits .x) ∙ p .cross) (toZ-ofZ (s .fits .y) ∙ p .dot)
+    shift-is _ _ (lr-is at-d2) (lt-is at-d2) (p .CR) (p .CT) (d2-is at-d2) (toZ-ofZ (s .fits .x) ∙ p .cross)
+    (toZ-ofZ (s .fits .y) ∙ p .dot)
     (c .shift-by .ensures)
 
 pub shift-with-spec : {M : Type 1} → statement M

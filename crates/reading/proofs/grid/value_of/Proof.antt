@@ -6,7 +6,9 @@ use Rattle.reading.proofs.grid.value_of.Statement.{statement}
 use Rattle.reading.proofs.grid.value_of.Tie as tie
 
 returns : tie.Need-returns
-returns c = value-is (pos (c .before .before .args .units)) (c .before .nearest-u64-to-f64 .ensures) (c .nearest-u64-to-f642 .ensures)
+returns c =
+    value-is (pos (c .before .before .args .units)) (c .before .nearest-u64-to-f64 .ensures)
+    (c .nearest-u64-to-f642 .ensures)
 
 pub value-of-spec : {M : Type 1} → statement M
 value-of-spec = tie.close (tie.spec (λ c κs. search needs) (λ c κs. search needs) returns)

@@ -20,4 +20,5 @@ opponent : tie.Need-returns-3
 opponent c = sym (ap perOne (c .enum-told3 .given .1))
 
 pub units-in-one-spec : {M : Type 1} → statement M
-units-in-one-spec = tie.close (tie.spec (λ c. search needs) (λ c. search needs) (λ c. search needs) tristimulus lightness opponent)
+units-in-one-spec =
+    tie.close (tie.spec (λ c. search needs) (λ c. search needs) (λ c. search needs) tristimulus lightness opponent)

@@ -10,7 +10,9 @@ use Rattle.semi_axes.proofs.hue.hue_f_of.Tie as tie
 q-is : (c : tie.After-hue-q) → c .hue-q .result ≡ hueQ 20 (c .before .args .a) (c .before .args .b)
 q-is c = simp (toZ-ofZ, c .before .fits .a, c .before .fits .b) at (c .hue-q .ensures)
 
-w-is : (c : tie.After-hue-w) → c .hue-w .result ≡ hueW 20 (hueQ 20 (c .before .before .args .a) (c .before .before .args .b))
+w-is :
+    (c : tie.After-hue-w) → c .hue-w .result
+    ≡ hueW 20 (hueQ 20 (c .before .before .args .a) (c .before .before .args .b))
 w-is c = c .hue-w .ensures ∙ ap (hueW 20) (q-is (c .before))
 
 pub hue-f-of-spec : {M : Type 1} → statement M

@@ -10,7 +10,8 @@ use Rattle.semi_axes.proofs.hue.hue_q.Tie as tie
 
 returns : tie.Need-returns
 unfolding hueQ
-returns c = ap (λ (x : ℕ). x / 134217728) (simp (toZ-ofZ, c .before .fits .a, c .before .fits .b) at (c .squares .ensures))
+returns c =
+    ap (λ (x : ℕ). x / 134217728) (simp (toZ-ofZ, c .before .fits .a, c .before .fits .b) at (c .squares .ensures))
 
 pub hue-q-spec : {M : Type 1} → statement M
 hue-q-spec =

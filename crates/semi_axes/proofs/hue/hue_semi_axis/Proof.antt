@@ -1,18 +1,21 @@
--- `hue::hue_semi_axis` meets its contract: lines 5 to 7, or SC for a neutral colour, whose chroma alone is 0. Assumes nothing.
+-- `hue::hue_semi_axis` meets its contract: lines 5 to 7, or SC for a neutral colour, whose chroma alone is 0.
+-- Assumes nothing.
 use mathlib.Core.Path.{_≡_, sym, ap₂, _∙_}
 use Prim.Native.Nat.{ℕ, _<_}
 use native.Mathlib.Omega.{arith}
 use borrow.Author.Needs.{needs}
 use mir.Facts.{toZ-ofZ}
 use Rattle.sheet.specs.Sheet.{secondForm, hueQ, hueW, hueF, hueM, hueT, hueP, hueG, semiAxisH}
-use Rattle.sheet.specs.Sheet.Laws.{neutral-of-chroma, chromatic-of-chroma, hueF-le, hueT-of-le, hueSemiAxis-neutral, hueSemiAxis-chromatic}
+use Rattle.sheet.specs.Sheet.Laws.{neutral-of-chroma, chromatic-of-chroma, hueF-le, hueT-of-le, hueSemiAxis-neutral}
+use Rattle.sheet.specs.Sheet.Laws.{hueSemiAxis-chromatic}
 use Rattle.semi_axes.proofs.hue.hue_semi_axis.Statement.{statement}
 use Rattle.semi_axes.proofs.hue.hue_semi_axis.Tie as tie
 
 neutral : tie.Need-returns
 neutral c =
     let s = c .before in
-    sym (hueSemiAxis-neutral 20 (s .args .a) (s .args .b) (s .args .c) (s .args .sc) (neutral-of-chroma _ _ (sym (s .pre .is) ∙ c .if1 .taken)))
+    sym (hueSemiAxis-neutral 20 (s .args .a) (s .args .b) (s .args .c) (s .args .sc)
+    (neutral-of-chroma _ _ (sym (s .pre .is) ∙ c .if1 .taken)))
 
 chromatic : tie.Need-hue-t-of-requires
 chromatic c κs =
@@ -30,7 +33,8 @@ module _ (c : tie.After-hue-t-of) where
   C>0 : 0 < start .args .c
   C>0 = omega arith
 
-  f-is : let s = start .args in at-f .hue-f-of .result ≡ hueF 20 (hueQ 20 (s .a) (s .b)) (hueW 20 (hueQ 20 (s .a) (s .b)))
+  f-is :
+      let s = start .args in at-f .hue-f-of .result ≡ hueF 20 (hueQ 20 (s .a) (s .b)) (hueW 20 (hueQ 20 (s .a) (s .b)))
   f-is = simp (toZ-ofZ, start .fits .a, start .fits .b) at (at-f .hue-f-of .ensures)
 
   t-is :
@@ -53,7 +57,8 @@ returns c =
     let s = start t .args in
     c .semi-axis-h .ensures
     ∙ ap₂ (λ (f t : ℕ). semiAxisH 20 (s .sc) (hueG 20 (hueP 20 f t) f)) (f-is t) (t-is t)
-    ∙ sym (hueSemiAxis-chromatic 20 (s .a) (s .b) (s .c) (s .sc) (chromatic-of-chroma _ _ (rw (start t .pre .is) at (C>0 t))))
+    ∙ sym (hueSemiAxis-chromatic 20 (s .a) (s .b) (s .c) (s .sc)
+    (chromatic-of-chroma _ _ (rw (start t .pre .is) at (C>0 t))))
 
 pub hue-semi-axis-spec : {M : Type 1} → statement M
 hue-semi-axis-spec = tie.close (tie.spec neutral (λ c κs. search needs) chromatic components-fit returns)

@@ -18,7 +18,8 @@ m-is :
     c .hue-m .result ≡ hueM (secondForm (a .a) (a .b)) (a .a) (a .b)
 m-is c =
     let s = c .before .before in
-    (simp (toZ-ofZ, s .fits .a, s .fits .b) at (c .hue-m .ensures)) ∙ ap (λ (t : Bool). hueM t (s .args .a) (s .args .b)) (second-is (c .before))
+    (simp (toZ-ofZ, s .fits .a, s .fits .b) at (c .hue-m .ensures))
+    ∙ ap (λ (t : Bool). hueM t (s .args .a) (s .args .b)) (second-is (c .before))
 
 hue-t-requires : tie.Need-hue-t-requires
 hue-t-requires c κs =
@@ -28,7 +29,8 @@ hue-t-requires c κs =
 returns : tie.Need-returns
 returns c =
     let second = c .before .before in
-    c .hue-t .ensures ∙ ap₂ (λ (t : Bool) (m : ℕ). hueT 20 t m (second .before .args .c)) (second-is second) (m-is (c .before))
+    c .hue-t .ensures ∙ ap₂ (λ (t : Bool) (m : ℕ). hueT 20 t m (second .before .args .c)) (second-is second)
+    (m-is (c .before))
 
 pub hue-t-of-spec : {M : Type 1} → statement M
 hue-t-of-spec =

@@ -12,7 +12,8 @@ use Rattle.semi_axes.proofs.hue.second_form.Tie as tie
 
 -- ---- the two sums, as the code has them
 module _ (c : tie.After-plus-products) where
-  first-is : let s = c .before .args in toZ w64 (ofZ w64 (c .plus-products .result)) ≡ 27563736 · s .a +ℤ 96126170 · s .b
+  first-is :
+      let s = c .before .args in toZ w64 (ofZ w64 (c .plus-products .result)) ≡ 27563736 · s .a +ℤ 96126170 · s .b
   first-is =
       let f = c .before .fits in
       let back : toZ w64 (ofZ w64 (c .plus-products .result)) ≡ c .plus-products .result = search needs in
@@ -22,7 +23,9 @@ module _ (c : tie.After-plus-products2) where
   abbrev at-first : tie.After-plus-products
   at-first = c .before .before
 
-  second-is : let s = at-first .before .args in toZ w64 (ofZ w64 (c .plus-products2 .result)) ≡ 25881905 · s .a +ℤ 96592583 · s .b
+  second-is :
+      let s = at-first .before .args in toZ w64 (ofZ w64 (c .plus-products2 .result))
+      ≡ 25881905 · s .a +ℤ 96592583 · s .b
   second-is =
       let f = at-first .before .fits in
       let back : toZ w64 (ofZ w64 (c .plus-products2 .result)) ≡ c .plus-products2 .result = search needs in

@@ -45,7 +45,8 @@ returns : tie.Need-returns
 unfolding semiAxesCMC
 returns c =
     let sc = c .before in
-    λ i. record { C = chroma-is (at-chroma sc) i; SL = sc .before .semi-axis-l .ensures i; SC = sc-is sc i; SH = sh-is c i }
+    λ i. record
+    { C = chroma-is (at-chroma sc) i; SL = sc .before .semi-axis-l .ensures i; SC = sc-is sc i; SH = sh-is c i }
 
 pub semi-axes-cmc-spec : {M : Type 1} → statement M
 semi-axes-cmc-spec =

@@ -1,4 +1,5 @@
--- `semi_axes::semi_axes_of` meets its contract: a formula a call, on the colour itself (`atPlaces-20`). Assumes nothing.
+-- `semi_axes::semi_axes_of` meets its contract: a formula a call, on the colour itself (`atPlaces-20`).
+-- Assumes nothing.
 use mathlib.Core.Path.{_≡_, ap, _∙_}
 use native.Mathlib.Omega.{arith}
 use borrow.Author.Needs.{needs}
@@ -38,13 +39,15 @@ cielab : tie.Need-returns
 unfolding semiAxes
 cielab c =
     let s = at-cielab c .before .before in
-    rw (at-cielab c .enum-told .given .1, atPlaces-20 (s .args .r)) (rw (a-back (s .pre), b-back (s .pre)) at (c .semi-axes-cielab .ensures))
+    rw (at-cielab c .enum-told .given .1, atPlaces-20 (s .args .r))
+    (rw (a-back (s .pre), b-back (s .pre)) at (c .semi-axes-cielab .ensures))
 
 cie94 : tie.Need-returns-2
 unfolding semiAxes
 cie94 c =
     let s = at-cie94 c .before .before in
-    rw (at-cie94 c .enum-told2 .given .1, atPlaces-20 (s .args .r)) (rw (a-back (s .pre), b-back (s .pre)) at (c .semi-axes-cie94 .ensures))
+    rw (at-cie94 c .enum-told2 .given .1, atPlaces-20 (s .args .r))
+    (rw (a-back (s .pre), b-back (s .pre)) at (c .semi-axes-cie94 .ensures))
 
 cmc : tie.Need-returns-3
 unfolding semiAxes

@@ -1,4 +1,5 @@
--- `semi_axes::semi_axis_c` meets its contract: the fraction of line 4 is in the reach of long division. Assumes nothing.
+-- `semi_axes::semi_axis_c` meets its contract: the fraction of line 4 is in the reach of long division.
+-- Assumes nothing.
 use borrow.Author.Needs.{needs}
 use Rattle.sheet.specs.Sheet.{semiAxisC}
 use Rattle.semi_axes.proofs.semi_axes.semi_axis_c.Statement.{statement}

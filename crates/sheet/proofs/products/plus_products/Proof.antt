@@ -12,11 +12,21 @@ mul-result-2 c = simp (toZ-ofZ, c .fits .r, c .fits .s) (mul-fits (c .pre .secon
 
 add-result : tie.Need-add-result
 add-result c =
-    simp (toZ-ofZ, c .fits .p, c .fits .q, c .fits .r, c .fits .s, mul-fits (c .pre .first), mul-fits (c .pre .second)) (add-fits (c .pre))
+    simp (toZ-ofZ, c .fits .p, c .fits .q, c .fits .r, c .fits .s, mul-fits (c .pre .first), mul-fits (c .pre .second))
+    (add-fits (c .pre))
 
 returns : tie.Need-returns
 returns c =
-    simp (toZ-ofZ, c .fits .p, c .fits .q, c .fits .r, c .fits .s, mul-fits (c .pre .first), mul-fits (c .pre .second), add-fits (c .pre))
+    simp (
+      toZ-ofZ,
+      c .fits .p,
+      c .fits .q,
+      c .fits .r,
+      c .fits .s,
+      mul-fits (c .pre .first),
+      mul-fits (c .pre .second),
+      add-fits (c .pre),
+    )
 
 pub plus-products-spec : {M : Type 1} → statement M
 plus-products-spec = tie.close (tie.spec mul-result mul-result-2 add-result returns)

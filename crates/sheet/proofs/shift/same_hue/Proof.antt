@@ -19,7 +19,8 @@ cross-zero c =
 
 cross-else : tie.Need-returns-2
 unfolding sameHue
-cross-else c = rw (ne-eqb ∣ c .before .args .x ∣ 0 (λ e. c .if1 .left (ap (ofZ w64) (zero-of-abs (c .before .args .x) e))))
+cross-else c =
+    rw (ne-eqb ∣ c .before .args .x ∣ 0 (λ e. c .if1 .left (ap (ofZ w64) (zero-of-abs (c .before .args .x) e))))
 
 pub same-hue-spec : {M : Type 1} → statement M
 same-hue-spec = tie.close (tie.spec cross-zero cross-else)

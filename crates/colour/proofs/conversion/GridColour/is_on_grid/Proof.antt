@@ -13,7 +13,8 @@ a-out : tie.Need-returns-2
 a-out c =
     let at-a = c .before in
     let in-L = at-a .before in
-    off-grid-a _ (sym (in-L .before .is-lightness .ensures) ∙ not-false _ (in-L .if1 .left)) (sym (at-a .is-opponent .ensures) ∙ not-true _ (c .if2 .taken))
+    off-grid-a _ (sym (in-L .before .is-lightness .ensures) ∙ not-false _ (in-L .if1 .left))
+    (sym (at-a .is-opponent .ensures) ∙ not-true _ (c .if2 .taken))
 
 b-decides : tie.Need-returns-3
 b-decides c =
@@ -24,4 +25,5 @@ b-decides c =
     (sym (at-a .is-opponent .ensures) ∙ not-false _ (in-a .if2 .left)) (c .is-opponent2 .ensures)
 
 pub is-on-grid-spec : {M : Type 1} → statement M
-is-on-grid-spec = tie.close (tie.spec (λ c κs. search needs) L-out (λ c κs. search needs) a-out (λ c κs. search needs) b-decides)
+is-on-grid-spec =
+    tie.close (tie.spec (λ c κs. search needs) L-out (λ c κs. search needs) a-out (λ c κs. search needs) b-decides)

@@ -1,4 +1,4 @@
--- `White::numbered` meets its contract: each arm is one of 01's numbers, and the last none of them. Assumes nothing.
+-- `White::numbered` meets its contract: each arm is the number of a white, and the last none of them. Assumes nothing.
 use mathlib.Core.Path.{sym, ap}
 use borrow.Author.Tests.{ne-eqb}
 use Rattle.colour.specs.White.{whiteNumbered}
@@ -26,7 +26,12 @@ unfolding whiteNumbered
 none c =
     let n = c .before .args .n in
     let others = c .match .rest in
-    simp (ne-eqb n 1 (others .0 .0 .0 .1), ne-eqb n 2 (others .0 .0 .1), ne-eqb n 3 (others .0 .1), ne-eqb n 4 (others .1))
+    simp (
+      ne-eqb n 1 (others .0 .0 .0 .1),
+      ne-eqb n 2 (others .0 .0 .1),
+      ne-eqb n 3 (others .0 .1),
+      ne-eqb n 4 (others .1),
+    )
 
 pub numbered-spec : {M : Type 1} → statement M
 numbered-spec = tie.close (tie.spec one two three four none)

@@ -24,4 +24,5 @@ c-two c = sym (ap whiteOf (c .enum-told4 .given .1))
 pub tristimulus-spec : {M : Type 1} → statement M
 tristimulus-spec =
     tie.close
-    (tie.spec (λ c. search needs) (λ c. search needs) (λ c. search needs) (λ c. search needs) d65-ten d65-two c-ten c-two)
+    (tie.spec (λ c. search needs) (λ c. search needs) (λ c. search needs) (λ c. search needs) d65-ten d65-two c-ten
+    c-two)

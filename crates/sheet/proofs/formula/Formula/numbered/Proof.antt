@@ -1,4 +1,5 @@
--- `Formula::numbered` meets its contract: each arm is one of 01's numbers, and the last none of them. Assumes nothing.
+-- `Formula::numbered` meets its contract: each arm is the number of a formula, and the last none of them.
+-- Assumes nothing.
 use mathlib.Core.Path.{sym, ap}
 use borrow.Author.Tests.{ne-eqb}
 use Rattle.sheet.specs.Settings.{formulaNumbered}

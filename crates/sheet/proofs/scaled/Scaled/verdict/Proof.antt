@@ -8,7 +8,9 @@ use Rattle.sheet.proofs.scaled.Scaled.verdict.Statement.{statement}
 use Rattle.sheet.proofs.scaled.Scaled.verdict.Tie as tie
 
 -- a row, where both scales are known
-row : {v : Verdict} {t d tolerance de : Scaled} → tolerance ≡ t → de ≡ d → v ≡ verdictOn 20 t d → v ≡ verdictOn 20 tolerance de
+row :
+    {v : Verdict} {t d tolerance de : Scaled} → tolerance ≡ t → de ≡ d → v ≡ verdictOn 20 t d →
+    v ≡ verdictOn 20 tolerance de
 row ht hd e = e ∙ sym (ap₂ (verdictOn 20) ht hd)
 
 cielab : tie.Need-returns
