@@ -1,5 +1,5 @@
--- 01-scope.md, "Ticket and report": what the lines of a report say after their key. `Lines/Laws.antt` has the pieces of a hue, `Lines/Longest.antt` how
--- long each can be. Assumes nothing.
+-- docs/SCOPE.md 10: what the lines of a report say after their key. `Lines/Laws.antt` has the pieces of a hue,
+-- `Lines/Longest.antt` how long each can be. Assumes nothing.
 use mathlib.Core.Bool.{Bool, false, cond}
 use mathlib.Core.List.{List, [], _∷_}
 use Prim.Native.Nat.{ℕ, _^_}

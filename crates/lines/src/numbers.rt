@@ -76,7 +76,9 @@ pub fn put_number(dst: &mut [u8], at: usize, key: &[u8], d: Shown) -> usize
 // DC= and DH=.
 pub fn put_chromatic(dst: &mut [u8], at: usize, withheld: bool, key: &[u8], d: Shown) -> usize
     requires { ⌜ Room (now dst) at (line (now key) (unlessWithheld withheld (decimalText d))) ⌝ }
-    ensures { λ r. ⌜ Puts (now (dst .entry)) at (line (now (key .entry)) (unlessWithheld withheld (decimalText d))) r (now (dst .exit)) ⌝ }
+    ensures { λ r.
+        ⌜ Puts (now (dst .entry)) at (line (now (key .entry)) (unlessWithheld withheld (decimalText d))) r
+        (now (dst .exit)) ⌝ }
 {
     if withheld {
         let after_key = put(dst, at, key);

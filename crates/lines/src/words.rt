@@ -96,7 +96,9 @@ pub fn chroma_len(withheld: bool, x: Chroma) -> usize
 
 pub fn put_chroma(dst: &mut [u8], at: usize, withheld: bool, x: Chroma) -> usize
     requires { ⌜ Room (now dst) at (line (ascii "chroma=") (unlessWithheld withheld (chromaWord x))) ⌝ }
-    ensures { λ r. ⌜ Puts (now (dst .entry)) at (line (ascii "chroma=") (unlessWithheld withheld (chromaWord x))) r (now (dst .exit)) ⌝ }
+    ensures { λ r.
+        ⌜ Puts (now (dst .entry)) at (line (ascii "chroma=") (unlessWithheld withheld (chromaWord x))) r
+        (now (dst .exit)) ⌝ }
 {
     if withheld {
         return put(dst, at, b"chroma=withheld\n");
@@ -156,7 +158,8 @@ pub fn hue_len(withheld: bool, x: Hue) -> usize
 
 pub fn put_hue(dst: &mut [u8], at: usize, withheld: bool, x: Hue) -> usize
     requires { ⌜ Room (now dst) at (line (ascii "hue=") (unlessWithheld withheld (hueWord x))) ⌝ }
-    ensures { λ r. ⌜ Puts (now (dst .entry)) at (line (ascii "hue=") (unlessWithheld withheld (hueWord x))) r (now (dst .exit)) ⌝ }
+    ensures { λ r.
+        ⌜ Puts (now (dst .entry)) at (line (ascii "hue=") (unlessWithheld withheld (hueWord x))) r (now (dst .exit)) ⌝ }
 {
     if withheld {
         return put(dst, at, b"hue=withheld\n");

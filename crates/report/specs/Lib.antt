@@ -3,3 +3,5 @@
 pub mod Report
 -- the room before and after
 pub mod Write
+-- any two outcomes that a contract admits are equal
+pub mod One

@@ -1,5 +1,6 @@
--- 01-scope.md, "Ticket and report": the twelve lines in their order, to be read beside the case printed there. What each says is defined in `lines`.
--- `Report/Cases.antt` has that case, `Report/Laws.antt` the lengths, `Report/Longest.antt` the longest report. Assumes nothing.
+-- docs/SCOPE.md 10.1: the twelve lines in their order, to be read beside the case of 11.1. What each says is defined in
+-- `lines`. `Report/Cases.antt` has that case, `Report/Laws.antt` the lengths, `Report/Longest.antt` the longest report.
+-- Assumes nothing.
 use mathlib.Core.Bool.{Bool, false}
 use mathlib.Core.List.{List, [], _∷_}
 use Prim.Native.Nat.{ℕ}
@@ -10,10 +11,12 @@ use Rattle.text.specs.Ascii.{ascii}
 use Rattle.text.specs.Decimal.{decimalText}
 use Rattle.text.specs.Names.{formulaName, whiteName}
 use Rattle.text.specs.Put.{joined, line}
-use Rattle.lines.specs.Lines.{lightnessWord, chromaWord, hueWord, verdictWord, unlessWithheld, thousandths, figure, signedFigure}
+use Rattle.lines.specs.Lines.{lightnessWord, chromaWord, hueWord, verdictWord, unlessWithheld, thousandths, figure}
+use Rattle.lines.specs.Lines.{signedFigure}
 pub mod Laws
 pub mod Cases
 pub mod Longest
+pub mod Lines
 
 -- what the difference was worked out by
 unfoldable pub settingLines : Settings → List (List ℕ)
@@ -43,7 +46,9 @@ wordLines j =
     ∷ []
 
 abbrev pub reportParts : Judgement → List (List ℕ)
-reportParts j = joined (settingLines (j .standard .settings)) ∷ joined (figureLines (j .withheld) (j .comparison .differences)) ∷ joined (wordLines j) ∷ []
+reportParts j =
+    joined (settingLines (j .standard .settings)) ∷ joined (figureLines (j .withheld) (j .comparison .differences))
+    ∷ joined (wordLines j) ∷ []
 
 unfoldable pub reportText : Judgement → List ℕ
 reportText j = joined (reportParts j)

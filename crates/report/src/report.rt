@@ -127,8 +127,8 @@ fn write_lines(part: &mut [u8], j: Judgement)
     put_words(part, after_figures, j);
 }
 
-// Writes the report into `room` from index `column` on and answers 0; or refuses and writes nothing, where from there on there is too
-// little room.
+// Writes the report into `room` from index `column` on and answers 0; or refuses and writes nothing, where from there
+// on there is too little room.
 pub fn write_report(room: &mut [u8], column: usize, j: Judgement) -> u32
     ensures { λ r. ⌜ Reported (now (room .entry)) column j r (now (room .exit)) ⌝ }
 {

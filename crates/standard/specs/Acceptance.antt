@@ -1,4 +1,5 @@
--- 01-scope.md: "A load takes formula, white, l, c, tolerance and reference". What it accepts is a standard. Assumes nothing.
+-- docs/SCOPE.md 1.2, 8.2: what a load takes, and what it is refused for. What it accepts is a standard.
+-- Assumes nothing.
 use mathlib.Core.Path.{_≡_}
 use mathlib.Core.Bool.{Bool, true, false, not, cond}
 use mathlib.Core.List.{List, [], _∷_}
@@ -21,11 +22,12 @@ use Rattle.standard.specs.declared.accept.SettingsOf.{SettingsOf}
 use Rattle.standard.specs.declared.accept.SettingsOf.the-variants as S
 use Rattle.standard.specs.declared.accept.Acceptance.{Acceptance}
 use Rattle.standard.specs.declared.accept.Acceptance.the-variants.{Refused, Accepted}
-use Rattle.standard.specs.Refusals.{Place, Fault, fault, refusal, atFormula, atWhite, atL, atC, atTolerance, atReference}
+use Rattle.standard.specs.Refusals.{Place, Fault, fault, refusal, atFormula, atWhite, atL, atC, atTolerance}
+use Rattle.standard.specs.Refusals.{atReference}
 pub mod Numbers
 pub mod Laws
 
--- ---- settings by 01's numbers: 1, then 2, where a number names nothing
+-- ---- settings by the numbers of a load: 1, then 2, where a number names nothing
 
 abbrev pub noFormula : NumberedFormula → Bool
 noFormula (F.Is f) = false
@@ -50,7 +52,8 @@ settingsOf formula white l c tolerance = named (formulaNumbered formula) (whiteN
 
 unfoldable pub rangeFaults : (l c tolerance : ℕ) → List Fault
 rangeFaults l c tolerance =
-    fault atL 3 (not (isFactor l)) ∷ fault atC 3 (not (isFactor c)) ∷ fault atTolerance 4 (not (isTolerance tolerance)) ∷ []
+    fault atL 3 (not (isFactor l)) ∷ fault atC 3 (not (isFactor c)) ∷ fault atTolerance 4 (not (isTolerance tolerance))
+    ∷ []
 
 -- that of a reading, at its place in the order
 abbrev pub readingFault : Place → Placed → Fault
@@ -69,7 +72,7 @@ acceptance s reference =
     let n : ℕ = refusal (acceptFaults s reference) in
     cond (eqb n 0) (accepted s reference) (Refused n)
 
--- 01's number of what a load comes to
+-- its refusal's number, 0 for none
 abbrev pub numberOf : Acceptance → ℕ
 numberOf (Refused n) = n
 numberOf (Accepted s) = 0

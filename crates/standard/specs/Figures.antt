@@ -1,4 +1,4 @@
--- What a load and a judgement hand back as floats. Assumes nothing.
+-- docs/SCOPE.md 3.5, 8.4: what a load and a judgement hand back as floats. Assumes nothing.
 use mathlib.Core.Bool.{false}
 use Prim.Native.Nat.{ℕ}
 use lib.IntN.{pos}
@@ -62,7 +62,8 @@ specimenFigures T C d = record {
 
 unfoldable pub specimenAnswer : Outcome → SpecimenAnswer
 specimenAnswer (O.Refused n) =
-    let none : SpecimenFigures = record { L = zero; a = zero; b = zero; C = zero; DL = zero; DC = zero; DH = zero; DE = zero } in
+    let none : SpecimenFigures =
+    record { L = zero; a = zero; b = zero; C = zero; DL = zero; DC = zero; DH = zero; DE = zero } in
     record { number = n; figures = none; names = Nothing }
 specimenAnswer (O.Judged j) =
     let found : SpecimenFigures = specimenFigures (j .test) (j .comparison .C) (j .comparison .differences) in

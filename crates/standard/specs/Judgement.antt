@@ -1,4 +1,4 @@
--- What a judgement of a test specimen by a standard comes to. Assumes nothing.
+-- docs/SCOPE.md 6, 7: what a judgement of a test specimen by a standard comes to. Assumes nothing.
 use mathlib.Core.Bool.{Bool, false}
 use Prim.Native.Nat.{ℕ}
 use Rattle.colour.specs.Conversion.Ranges.{OnGrid}
@@ -45,7 +45,7 @@ unfoldable pub outcome : Standard → (test : Placed) → Outcome
 outcome s (P.At T) = Judged (judgementOf s T)
 outcome s (P.Refused n) = Refused n
 
--- 01's number of what a judgement comes to
+-- its refusal's number, 0 for none
 abbrev pub numberOf : Outcome → ℕ
 numberOf (Refused n) = n
 numberOf (Judged j) = 0

@@ -1,5 +1,5 @@
 -- What the contracts of `standard` cite, and the laws that callers go by.
--- 01's refusal numbers and their one order
+-- the refusals' one order
 pub mod Refusals
 -- what settings and a reference come to
 pub mod Acceptance

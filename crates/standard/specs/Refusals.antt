@@ -1,5 +1,5 @@
--- 01-scope.md, "Refusal numbers": the one order in which a call's faults are looked for. A call lists the faults that it can have, each at its place;
--- the number of every call is `refusal` of its list. Assumes nothing.
+-- docs/SCOPE.md 8.2: the one order in which a call's faults are looked for. A call lists the faults that it can have,
+-- each at its place; the number of every call is `refusal` of its list. Assumes nothing.
 use mathlib.Core.Bool.{Bool, cond}
 use mathlib.Core.List.{List, [], _∷_, map}
 use Prim.Native.Nat.{ℕ}
@@ -15,7 +15,7 @@ pub data Place : Type 0 where
 abbrev pub order : List Place
 order = atText ∷ atStation ∷ atFormula ∷ atWhite ∷ atL ∷ atC ∷ atTolerance ∷ atReference ∷ atTest ∷ atRoom ∷ []
 
--- 01's number for a fault, or 0 where there is none
+-- a refusal's number, or 0 where there is no fault
 pub record Fault : Type 0 where
   pub place : Place
   pub number : ℕ
@@ -24,7 +24,6 @@ pub record Fault : Type 0 where
 abbrev pub fault : Place → (n : ℕ) (there : Bool) → Fault
 fault p n there = record { place = p; number = cond there n 0 }
 
--- n where it is so, m where it is not
 abbrev pub either : {A : Type 0} → Dec A → (n m : ℕ) → ℕ
 either (yes e) n m = n
 either (no e) n m = m

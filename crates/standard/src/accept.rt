@@ -13,7 +13,8 @@ ghost use mathlib.Core.Path.{_≡_};
 ghost use Rattle.standard.specs.Refusals.{refusal};
 ghost use Rattle.standard.specs.Acceptance.{settingsOf, rangeFaults, acceptance};
 
-// What judgements go by, the reference on the grid. Nothing that is worked out from these is kept, so that nothing kept can be stale.
+// What judgements go by, the reference on the grid. Nothing that is worked out from these is kept, so that nothing kept
+// can be stale.
 pub struct Standard {
     pub settings: Settings,
     pub colour: GridColour,
@@ -31,7 +32,7 @@ pub enum Acceptance {
     Accepted(Standard),
 }
 
-// The settings that 01's numbers of a formula and of a white name: 1, then 2, where there is no such formula or white.
+// The settings that the numbers of a formula and of a white name: 1, then 2, where there is no such formula or white.
 pub fn settings_of(formula: u32, white: u32, l: u32, c: u32, tolerance: u32) -> SettingsOf
     ensures { λ r. ⌜ r ≡ settingsOf formula white l c tolerance ⌝ }
 {

@@ -3,3 +3,5 @@
 pub mod Record
 -- runs of loads
 pub mod Runs
+-- any two outcomes that a contract admits are equal
+pub mod One

@@ -1,5 +1,5 @@
--- The station's slice: formula 1 byte, white 1, l 2, c 2, tolerance 2, L* 4, a* 4, b* 4, with no padding, the least byte first; the colour in grid
--- units, in two's complement. Assumes nothing.
+-- docs/SCOPE.md 1.4, the station's slice: formula 1 byte, white 1, l 2, c 2, tolerance 2, L* 4, a* 4, b* 4, with no
+-- padding, the least byte first; the colour in grid units, in two's complement. Assumes nothing.
 use mathlib.Core.Bool.{true, cond}
 use mathlib.Core.List.{List, [], _∷_, _++_}
 use Prim.Native.Nat.{ℕ, _+_, _-_, _*_, _/_, _%_, _^_}
@@ -26,6 +26,7 @@ use Rattle.station.specs.declared.Station.the-variants.{Empty, Holds}
 pub mod Laws
 pub mod Numbers
 pub mod Back
+pub mod Exactly
 
 -- ---- numbers as bytes
 
@@ -71,7 +72,8 @@ abbrev pub settingsIn : List ℕ → SettingsOf
 settingsIn xs = settingsOf (getD xs 0 0) (getD xs 1 0) (two xs 2) (two xs 4) (two xs 6)
 
 abbrev pub colourIn : List ℕ → GridColour
-colourIn xs = record { L = gridOf (ofTwos (four xs 8)); a = gridOf (ofTwos (four xs 12)); b = gridOf (ofTwos (four xs 16)) }
+colourIn xs =
+    record { L = gridOf (ofTwos (four xs 8)); a = gridOf (ofTwos (four xs 12)); b = gridOf (ofTwos (four xs 16)) }
 
 -- one that lies beyond the grid is out of range
 unfoldable pub placed : GridColour → Placed

@@ -1,4 +1,5 @@
--- Runs over the station's slice: it starts as zeros, and each acceptance is written over what the one before left. Assumes nothing.
+-- docs/SCOPE.md 1.4, runs over the station's slice: it starts as zeros, and each acceptance is written over what the
+-- one before left. Assumes nothing.
 use mathlib.Core.List.{List, [], _∷_}
 use Prim.Native.Nat.{ℕ}
 use Rattle.standard.specs.declared.accept.Acceptance.{Acceptance}

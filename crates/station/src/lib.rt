@@ -22,7 +22,8 @@ pub enum Station {
 
 // Stores a standard in a slice of 20 bytes; a slice of another length stays, and the answer is false.
 pub fn store(s: Standard, slice: &mut [u8]) -> bool
-    ensures { λ r. ⌜ (r ≡ eqb (length (now (slice .entry))) 20) × (now (slice .exit) ≡ storeIn s (now (slice .entry))) ⌝ }
+    ensures { λ r.
+        ⌜ (r ≡ eqb (length (now (slice .entry))) 20) × (now (slice .exit) ≡ storeIn s (now (slice .entry))) ⌝ }
 {
     if slice.len() == 20 {
         let b = bytes_of(s);

@@ -1,5 +1,5 @@
--- The longest that a line can say: with k digits before the point, and a difference together with its name, of which one is short where the
--- other is long. Assumes nothing.
+-- The longest that a line can say: with k digits before the point, and a difference together with its name, of which
+-- one is short where the other is long. Assumes nothing.
 use mathlib.Core.Path.{_≡_, refl, sym, _∙_}
 use mathlib.Core.Bool.{Bool, true, false}
 use mathlib.Core.Logic.{_⊎_, inl, inr, ⊎-elim}
@@ -24,7 +24,8 @@ use Rattle.names.specs.declared.Hue.the-variants as H
 use Rattle.text.specs.Decimal.{minusSign, decimalText}
 use Rattle.text.specs.Decimal.Laws.{shown-whole-lt, width-le, decimal-length}
 use Rattle.text.specs.Names.{whiteName}
-use Rattle.lines.specs.Lines.{lightnessWord, chromaWord, axisWord, hueWord, verdictWord, thousandths, figure, signedFigure}
+use Rattle.lines.specs.Lines.{lightnessWord, chromaWord, axisWord, hueWord, verdictWord, thousandths, figure}
+use Rattle.lines.specs.Lines.{signedFigure}
 use Rattle.lines.specs.Lines.Laws.{axes-length}
 
 -- m units are below so many ones
@@ -41,14 +42,20 @@ minus-sign-le false = omega arith
 module _ (k : ℕ) (some : 0 < k) where
   pub thousandths-length-le : (m : ℕ) → m < 10 ^ k * 1000 → length (decimalText (thousandths m)) ≤ k + 4
   thousandths-length-le m h =
-      omega (arith, decimal-length (thousandths m), width-le k (m / 1000) some (div-lt-iff-lt-mul {k = 1000} {x = m} {y = 10 ^ k} (omega arith) .1 h))
+      omega (
+        arith,
+        decimal-length (thousandths m),
+        width-le k (m / 1000) some
+            (div-lt-iff-lt-mul {k = 1000} {x = m} {y = 10 ^ k} (omega arith) .1 h),
+      )
 
   pub figure-length-le : (below : Bool) (m : ℕ) → Under (10 ^ k) m → length (decimalText (figure below m)) ≤ k + 6
   figure-length-le below m h =
       let digits = width-le k (figure below m .whole) some (shown-whole-lt 4 (2 ^ 20) (10 ^ k) m (omega arith) h) in
       omega (arith, decimal-length (figure below m), minus-sign-le (figure below m .minus))
 
-  pub plain-length-le : (below : Bool) (m : ℕ) → below ≡ false → Under (10 ^ k) m → length (decimalText (figure below m)) ≤ k + 5
+  pub plain-length-le :
+      (below : Bool) (m : ℕ) → below ≡ false → Under (10 ^ k) m → length (decimalText (figure below m)) ≤ k + 5
   plain-length-le below m e h =
       let digits = width-le k (figure below m .whole) some (shown-whole-lt 4 (2 ^ 20) (10 ^ k) m (omega arith) h) in
       let none : length (minusSign (figure below m .minus)) ≡ 0 = rw e in
@@ -97,9 +104,12 @@ axes-le : (name bracket : Axis) → (name ≡ bracket → ⊥) → length (axisW
 axes-le name bracket differ =
     ⊎-elim
     (λ h. omega (arith, axis-length-le bracket))
-    (λ e. ⊎-elim (λ h. omega (arith, axis-length-le name)) (λ f. absurd (differ (e ∙ sym f))) (seven-or-yellower bracket))
+    (λ e. ⊎-elim (λ h. omega (arith, axis-length-le name)) (λ f. absurd (differ (e ∙ sym f)))
+    (seven-or-yellower bracket))
     (seven-or-yellower name)
 
-pub hue-length-le : (x : Hue) → ((name bracket : Axis) → x ≡ H.Towards name bracket → name ≡ bracket → ⊥) → length (hueWord x) ≤ 17
+pub hue-length-le :
+    (x : Hue) → ((name bracket : Axis) → x ≡ H.Towards name bracket → name ≡ bracket → ⊥) → length (hueWord x) ≤ 17
 hue-length-le H.Equal differ = omega arith
-hue-length-le (H.Towards name bracket) differ = omega (arith, axes-length name bracket, axes-le name bracket (differ name bracket refl))
+hue-length-le (H.Towards name bracket) differ =
+    omega (arith, axes-length name bracket, axes-le name bracket (differ name bracket refl))

@@ -1,4 +1,5 @@
--- Two reports, whole, by computation: the case that 01 prints, and one with brackets and minus signs. Assumes nothing.
+-- Two reports, whole, by computation: that of docs/SCOPE.md 11.1, and one with brackets and minus signs.
+-- Assumes nothing.
 use mathlib.Core.Path.{_≡_, refl}
 use mathlib.Core.Bool.{Bool, true, false}
 use mathlib.Core.List.{[], _∷_}

@@ -1,4 +1,5 @@
--- How long the three parts of a report are, and the report of them; and the lines whose numbers code has as they are shown. Assumes nothing.
+-- How long the three parts of a report are, and the report of them; and the lines whose numbers code has as they are
+-- shown. Assumes nothing.
 use mathlib.Core.Path.{_≡_}
 use mathlib.Core.Bool.{Bool, true, false}
 use mathlib.Core.List.{List, [], _∷_}
@@ -14,7 +15,8 @@ use Rattle.text.specs.Names.{formulaName, whiteName}
 use Rattle.text.specs.Put.{joined, line}
 use Rattle.text.specs.Put.Laws.{line-length}
 use Rattle.text.specs.declared.decimal.Shown.{Shown}
-use Rattle.lines.specs.Lines.{lightnessWord, chromaWord, hueWord, verdictWord, unlessWithheld, thousandths, figure, signedFigure}
+use Rattle.lines.specs.Lines.{lightnessWord, chromaWord, hueWord, verdictWord, unlessWithheld, thousandths, figure}
+use Rattle.lines.specs.Lines.{signedFigure}
 use Rattle.report.specs.Report.{settingLines, figureLines, wordLines, reportText}
 
 -- ---- lengths
@@ -22,14 +24,16 @@ use Rattle.report.specs.Report.{settingLines, figureLines, wordLines, re
 module _ (s : Settings) where
   pub settings-length :
       length (joined (settingLines s))
-      ≡ 22 + length (formulaName (s .formula)) + length (whiteName (s .white)) + length (decimalText (thousandths (s .l)))
+      ≡ 22 + length (formulaName (s .formula)) + length (whiteName (s .white)) + length
+      (decimalText (thousandths (s .l)))
       + length (decimalText (thousandths (s .c)))
   unfolding settingLines
   settings-length = simp (length-append, line-length) (omega arith)
 
 module _ (d : Differences) where
   pub figures-length-withheld :
-      length (joined (figureLines true d)) ≡ 4 + length (decimalText (figure false (d .DE))) + (4 + length (decimalText (signedFigure (d .DL)))) + 24
+      length (joined (figureLines true d))
+      ≡ 4 + length (decimalText (figure false (d .DE))) + (4 + length (decimalText (signedFigure (d .DL)))) + 24
   unfolding figureLines
   figures-length-withheld = simp (length-append, line-length) (omega arith)
 
@@ -50,7 +54,8 @@ module _ (j : Judgement) where
 
   pub report-length :
       length (reportText j)
-      ≡ length (joined (settingLines (j .standard .settings))) + length (joined (figureLines (j .withheld) (j .comparison .differences)))
+      ≡ length (joined (settingLines (j .standard .settings))) + length
+      (joined (figureLines (j .withheld) (j .comparison .differences)))
       + length (joined (wordLines j))
   unfolding reportText
   report-length = simp length-append (omega arith)
@@ -65,7 +70,9 @@ settingsShown s l c =
     ∷ line (ascii "c=") (decimalText c)
     ∷ []
 
-pub settings-shown : (s : Settings) {l c : Shown} → l ≡ thousandths (s .l) → c ≡ thousandths (s .c) → settingLines s ≡ settingsShown s l c
+pub settings-shown :
+    (s : Settings) {l c : Shown} → l ≡ thousandths (s .l) → c ≡ thousandths (s .c) →
+    settingLines s ≡ settingsShown s l c
 unfolding settingLines
 settings-shown s el ec = rw (el, ec)
 

@@ -23,10 +23,12 @@ use Rattle.text.specs.Put.{joined}
 use Rattle.text.specs.Decimal.{decimalText}
 use Rattle.text.specs.Names.{formulaName}
 use Rattle.lines.specs.Lines.{lightnessWord, chromaWord, hueWord, unlessWithheld, thousandths, figure, signedFigure}
-use Rattle.lines.specs.Lines.Longest.{Under, thousandths-length-le, figure-length-le, plain-length-le, lightness-and-DL-le, chroma-and-DC-le}
+use Rattle.lines.specs.Lines.Longest.{Under, thousandths-length-le, figure-length-le, plain-length-le}
+use Rattle.lines.specs.Lines.Longest.{lightness-and-DL-le, chroma-and-DC-le}
 use Rattle.lines.specs.Lines.Longest.{white-length-le, hue-length-le, verdict-length}
 use Rattle.report.specs.Report.{figureLines, reportText}
-use Rattle.report.specs.Report.Laws.{settings-length, figures-length, figures-length-withheld, words-length, report-length}
+use Rattle.report.specs.Report.Laws.{settings-length, figures-length, figures-length-withheld, words-length}
+use Rattle.report.specs.Report.Laws.{report-length}
 
 -- ---- what the sheet can give
 
@@ -56,7 +58,8 @@ pub record Printable (j : Judgement) : Type 0 where
   pub l : j .standard .settings .l ≤ 10000
   pub c : j .standard .settings .c ≤ 10000
   pub within :
-      Figures (j .standard .settings .formula) (j .standard .settings .l) (j .standard .settings .c) (j .comparison .differences)
+      Figures (j .standard .settings .formula) (j .standard .settings .l) (j .standard .settings .c)
+      (j .comparison .differences)
   pub lighter : j .lightness ≡ L.Lighter → minus (j .comparison .differences .DL) ≡ false
   pub equal : j .chroma ≡ C.Equal → minus (j .comparison .differences .DC) ≡ false
   pub axes : (name bracket : Axis) → j .hue ≡ H.Towards name bracket → name ≡ bracket → ⊥
@@ -65,11 +68,13 @@ pub record Printable (j : Judgement) : Type 0 where
 
 -- what l=, DL= and lightness= say
 abbrev lightPart : (l : ℕ) → Lightness → ℤ → ℕ
-lightPart l x DL = length (decimalText (thousandths l)) + (length (lightnessWord x) + length (decimalText (signedFigure DL)))
+lightPart l x DL =
+    length (decimalText (thousandths l)) + (length (lightnessWord x) + length (decimalText (signedFigure DL)))
 
 -- what c=, DC= and chroma= say
 abbrev chromaPart : (c : ℕ) → Chroma → ℤ → ℕ
-chromaPart c x DC = length (decimalText (thousandths c)) + (length (chromaWord x) + length (decimalText (signedFigure DC)))
+chromaPart c x DC =
+    length (decimalText (thousandths c)) + (length (chromaWord x) + length (decimalText (signedFigure DC)))
 
 one-digit : (m : ℕ) → m < 10000 → length (decimalText (thousandths m)) ≤ 5
 one-digit m h = thousandths-length-le 1 (omega arith) m h
@@ -78,7 +83,8 @@ two-digits : (m : ℕ) → m ≤ 10000 → length (decimalText (thousandths m)) 
 two-digits m h = thousandths-length-le 2 (omega arith) m (omega arith)
 
 light-part-le :
-    (l : ℕ) (x : Lightness) (z : ℤ) → l ≤ 10000 → (x ≡ L.Lighter → minus z ≡ false) → Under 1000 ∣ z ∣ → (l ≡ 10000 → Under 100 ∣ z ∣) →
+    (l : ℕ) (x : Lightness) (z : ℤ) → l ≤ 10000 → (x ≡ L.Lighter → minus z ≡ false) → Under 1000 ∣ z ∣ →
+    (l ≡ 10000 → Under 100 ∣ z ∣) →
     lightPart l x z ≤ 20
 light-part-le l x z most up h at-ten =
     ⊎-elim
@@ -87,7 +93,8 @@ light-part-le l x z most up h at-ten =
     (eq-or-lt-of-le most)
 
 chroma-part-le :
-    (c : ℕ) (x : Chroma) (z : ℤ) → c ≤ 10000 → (x ≡ C.Equal → minus z ≡ false) → Under 10000 ∣ z ∣ → (c ≡ 10000 → Under 100 ∣ z ∣) →
+    (c : ℕ) (x : Chroma) (z : ℤ) → c ≤ 10000 → (x ≡ C.Equal → minus z ≡ false) → Under 10000 ∣ z ∣ →
+    (c ≡ 10000 → Under 100 ∣ z ∣) →
     chromaPart c x z ≤ 19
 chroma-part-le c x z most same h at-ten =
     ⊎-elim
@@ -99,7 +106,8 @@ chroma-part-le c x z most same h at-ten =
 
 -- what the lines say that are never withheld, but for white= and c=, and those that may be, but for hue=
 abbrev openPart : Settings → Differences → Lightness → ℕ
-openPart s d x = length (formulaName (s .formula)) + lightPart (s .l) x (d .DL) + length (decimalText (figure false (d .DE)))
+openPart s d x =
+    length (formulaName (s .formula)) + lightPart (s .l) x (d .DL) + length (decimalText (figure false (d .DE)))
 
 abbrev chromaticPart : Settings → Differences → Chroma → ℕ
 chromaticPart s d x = chromaPart (s .c) x (d .DC) + length (decimalText (signedFigure (d .DH)))
@@ -141,8 +149,10 @@ module _ (j : Judgement) (p : Printable j) where
   -- what all lines say but white= and verdict=, with those that may be withheld and without
   but-white-le :
       (withheld : Bool) → Sizes →
-      length (formulaName (s .formula)) + length (decimalText (thousandths (s .l))) + length (decimalText (thousandths (s .c)))
-      + length (joined (figureLines withheld d)) + length (lightnessWord (j .lightness)) + length (unlessWithheld withheld (chromaWord (j .chroma)))
+      length (formulaName (s .formula)) + length (decimalText (thousandths (s .l))) + length
+      (decimalText (thousandths (s .c)))
+      + length (joined (figureLines withheld d)) + length (lightnessWord (j .lightness)) + length
+      (unlessWithheld withheld (chromaWord (j .chroma)))
       + length (unlessWithheld withheld (hueWord (j .hue)))
       ≤ 96
   but-white-le true z = omega (arith, figures-length-withheld d, two-digits (s .c) (p .c))

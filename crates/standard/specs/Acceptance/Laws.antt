@@ -1,4 +1,5 @@
--- What callers use of acceptance: each way out of it, its number, and that what is accepted is valid, and every valid standard accepted. Assumes nothing.
+-- What callers use of acceptance: each way out of it, its number, and that what is accepted is valid, and every valid
+-- standard accepted. Assumes nothing.
 use mathlib.Core.Path.{_≡_, refl, sym, ap, _∙_}
 use mathlib.Core.Bool.{Bool, true, false, cond}
 use mathlib.Core.List.{List, [], _∷_, map}
@@ -17,7 +18,8 @@ use Rattle.standard.specs.declared.accept.Standard.{Standard}
 use Rattle.standard.specs.declared.accept.Acceptance.the-variants.{Refused, Accepted}
 use Rattle.standard.specs.Refusals.{atL, atC, atTolerance, numberAt, first, firstOf, refusal}
 use Rattle.standard.specs.Refusals.Laws.{first-zero, first-some, first-none, firstOf-append}
-use Rattle.standard.specs.Acceptance.{rangeFaults, acceptFaults, accepted, acceptance, numberOf, Valid, ValidIn, PlacedOn}
+use Rattle.standard.specs.Acceptance.{rangeFaults, acceptFaults, accepted, acceptance, numberOf, Valid, ValidIn}
+use Rattle.standard.specs.Acceptance.{PlacedOn}
 
 -- ---- the ranges' own refusal: each way out
 
@@ -41,7 +43,9 @@ module _ (l c tolerance : ℕ) where
       all-in h = rw (l-in, c-in, h)
 
 -- the reference's comes after it
-pub accept-refusal : (s : Settings) (p : Placed) → refusal (acceptFaults s p) ≡ first (refusal (rangeFaults (s .l) (s .c) (s .tolerance))) (refusalOf p)
+pub accept-refusal :
+    (s : Settings) (p : Placed) → refusal (acceptFaults s p)
+    ≡ first (refusal (rangeFaults (s .l) (s .c) (s .tolerance))) (refusalOf p)
 unfolding refusal acceptFaults rangeFaults numberAt firstOf
 accept-refusal s p =
     let fs : List ℕ = map (numberAt (rangeFaults (s .l) (s .c) (s .tolerance))) (atL ∷ atC ∷ atTolerance ∷ []) in
@@ -50,7 +54,9 @@ accept-refusal s p =
 -- ---- acceptance: each way out
 
 module _ (s : Settings) where
-  pub settings-refused : (p : Placed) {n : ℕ} → n ≡ refusal (rangeFaults (s .l) (s .c) (s .tolerance)) → (n ≡ 0 → ⊥) → Refused n ≡ acceptance s p
+  pub settings-refused :
+      (p : Placed) {n : ℕ} → n ≡ refusal (rangeFaults (s .l) (s .c) (s .tolerance)) → (n ≡ 0 → ⊥) →
+      Refused n ≡ acceptance s p
   unfolding acceptance
   settings-refused p {n} e h =
       let is : refusal (acceptFaults s p) ≡ n = accept-refusal s p ∙ rw (← e) (first-some (refusalOf p) h) in
@@ -84,7 +90,8 @@ module _ (s : Settings) where
     where
       go :
           (b : Bool) → eqb (refusal (acceptFaults s (P.At c))) 0 ≡ b →
-          cond b (Accepted (record { settings = s; colour = c })) (Refused (refusal (acceptFaults s (P.At c)))) ≡ Accepted q → Made s (P.At c) q
+          cond b (Accepted (record { settings = s; colour = c })) (Refused (refusal (acceptFaults s (P.At c))))
+          ≡ Accepted q → Made s (P.At c) q
       go true e h =
           let same : _≡_ {A = Standard} (record { settings = s; colour = c }) q = cc in
           record {
@@ -95,12 +102,16 @@ module _ (s : Settings) where
       go false e h = let no : _≡_ {A = ℕ} 0 1 = cc in absurd (omega arith)
   accepted-made (P.Refused n) {q} = go (eqb (refusal (acceptFaults s (P.Refused n))) 0)
     where
-      go : (b : Bool) → cond b (Refused n) (Refused (refusal (acceptFaults s (P.Refused n)))) ≡ Accepted q → Made s (P.Refused n) q
+      go :
+          (b : Bool) → cond b (Refused n) (Refused (refusal (acceptFaults s (P.Refused n)))) ≡ Accepted q →
+          Made s (P.Refused n) q
       go true h = let no : _≡_ {A = ℕ} 0 1 = cc in absurd (omega arith)
       go false h = let no : _≡_ {A = ℕ} 0 1 = cc in absurd (omega arith)
 
 -- numbers with no refusal lie in their ranges
-ranges-in : (l c tolerance : ℕ) → refusal (rangeFaults l c tolerance) ≡ 0 → (isFactor l ≡ true) × (isFactor c ≡ true) × (isTolerance tolerance ≡ true)
+ranges-in :
+    (l c tolerance : ℕ) → refusal (rangeFaults l c tolerance) ≡ 0 → (isFactor l ≡ true) × (isFactor c ≡ true)
+    × (isTolerance tolerance ≡ true)
 ranges-in l c tolerance none = go (isFactor l) refl (isFactor c) refl (isTolerance tolerance) refl
   where
     go :
@@ -126,7 +137,8 @@ accepted-valid s p on q e =
 -- AND EVERY VALID STANDARD IS
 pub valid-accepted : (q : Standard) → Valid q → acceptance (q .settings) (P.At (q .colour)) ≡ Accepted q
 valid-accepted q v =
-    sym (is-accepted (q .settings) (all-in _ _ _ (of-factor (v .l)) (of-factor (v .c)) (of-tolerance (v .tolerance))) (q .colour))
+    sym (is-accepted (q .settings) (all-in _ _ _ (of-factor (v .l)) (of-factor (v .c)) (of-tolerance (v .tolerance)))
+    (q .colour))
 
 -- its number is that of its first fault
 pub accept-number : (s : Settings) (p : Placed) → numberOf (acceptance s p) ≡ refusal (acceptFaults s p)
@@ -140,12 +152,15 @@ accept-number s p = go (eqb (refusal (acceptFaults s p)) 0) refl p refl
     go true e (P.At c) h = sym (eqb-true _ 0 e)
     go true e (P.Refused n) h =
         let none : refusal (acceptFaults s p) ≡ 0 = eqb-true _ 0 e in
-        let its : refusalOf p ≡ 0 = first-none (refusal (rangeFaults (s .l) (s .c) (s .tolerance))) (refusalOf p) (sym (accept-refusal s p) ∙ none) .1 in
+        let its : refusalOf p ≡ 0 =
+        first-none (refusal (rangeFaults (s .l) (s .c) (s .tolerance))) (refusalOf p) (sym (accept-refusal s p) ∙ none)
+        .1 in
         ap refusalOf (sym h) ∙ its ∙ sym none
 
 -- a refusal has a number, where the reference's has one
 pub refused-some :
-    (s : Settings) (p : Placed) → ((n : ℕ) → p ≡ P.Refused n → n ≡ 0 → ⊥) → {n : ℕ} → acceptance s p ≡ Refused n → n ≡ 0 → ⊥
+    (s : Settings) (p : Placed) → ((n : ℕ) → p ≡ P.Refused n → n ≡ 0 → ⊥) → {n : ℕ} → acceptance s p ≡ Refused n →
+    n ≡ 0 → ⊥
 unfolding acceptance
 refused-some s p some {n} = go (eqb (refusal (acceptFaults s p)) 0) refl p refl
   where

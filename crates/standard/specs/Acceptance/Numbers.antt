@@ -1,4 +1,5 @@
--- What callers use of settings by 01's numbers: each way out, and that settings are those of their own numbers and of no others. Assumes nothing.
+-- What callers use of settings by the numbers of a load: each way out, and that settings are those of their own numbers
+-- and of no others. Assumes nothing.
 use mathlib.Core.Path.{_≡_, refl, ap, _∙_, subst}
 use mathlib.Core.Bool.{Bool, true, false, cond}
 use Prim.Native.Nat.{ℕ}
@@ -33,13 +34,16 @@ module _ (formula white l c tolerance : ℕ) {f : NumberedFormula} (ef : f ≡ f
 
     pub both-named :
         {in-white : White} → w ≡ W.Is in-white →
-        S.Are (record { formula = is; white = in-white; l = l; c = c; tolerance = tolerance }) ≡ settingsOf formula white l c tolerance
+        S.Are (record { formula = is; white = in-white; l = l; c = c; tolerance = tolerance })
+        ≡ settingsOf formula white l c tolerance
     unfolding settingsOf
     both-named g = rw (← ef, ← ew, h, g)
 
 -- ---- settings are those of their own numbers, and of no others
 
-pub settings-back : (s : Settings) → settingsOf (numberOfFormula (s .formula)) (numberOfWhite (s .white)) (s .l) (s .c) (s .tolerance) ≡ S.Are s
+pub settings-back :
+    (s : Settings) → settingsOf (numberOfFormula (s .formula)) (numberOfWhite (s .white)) (s .l) (s .c) (s .tolerance)
+    ≡ S.Are s
 unfolding settingsOf
 settings-back s = rw (formula-numbered (s .formula), numbered-back (s .white))
 
@@ -68,14 +72,17 @@ white-number n {w} = go (eqb n 1) refl (eqb n 2) refl (eqb n 3) refl (eqb n 4) r
   where
     go :
         (p : Bool) → eqb n 1 ≡ p → (q : Bool) → eqb n 2 ≡ q → (r : Bool) → eqb n 3 ≡ r → (s : Bool) → eqb n 4 ≡ s →
-        cond p (W.Is D65Ten) (cond q (W.Is D65Two) (cond r (W.Is CTen) (cond s (W.Is CTwo) W.Unknown))) ≡ W.Is w → n ≡ numberOfWhite w
+        cond p (W.Is D65Ten) (cond q (W.Is D65Two) (cond r (W.Is CTen) (cond s (W.Is CTwo) W.Unknown))) ≡ W.Is w →
+        n ≡ numberOfWhite w
     go true hp q hq r hr s hs h = let is : D65Ten ≡ w = cc in eqb-true n 1 hp ∙ ap numberOfWhite is
     go false hp true hq r hr s hs h = let is : D65Two ≡ w = cc in eqb-true n 2 hq ∙ ap numberOfWhite is
     go false hp false hq true hr s hs h = let is : CTen ≡ w = cc in eqb-true n 3 hr ∙ ap numberOfWhite is
     go false hp false hq false hr true hs h = let is : CTwo ≡ w = cc in eqb-true n 4 hs ∙ ap numberOfWhite is
     go false hp false hq false hr false hs h = let no : _≡_ {A = ℕ} 0 1 = cc in absurd (omega arith)
 
-pub settings-only : (formula white l c tolerance : ℕ) {s : Settings} → settingsOf formula white l c tolerance ≡ S.Are s → NumbersOf s formula white l c tolerance
+pub settings-only :
+    (formula white l c tolerance : ℕ) {s : Settings} → settingsOf formula white l c tolerance ≡ S.Are s →
+    NumbersOf s formula white l c tolerance
 unfolding settingsOf
 settings-only formula white l c tolerance {s} = go (formulaNumbered formula) refl (whiteNumbered white) refl
   where
@@ -85,6 +92,13 @@ settings-only formula white l c tolerance {s} = go (formulaNumbered formula) ref
     go (F.Is f) hf (W.Is w) hw h =
         let same : _≡_ {A = Settings} (record { formula = f; white = w; l = l; c = c; tolerance = tolerance }) s = cc in
         subst (λ (t : Settings). NumbersOf t formula white l c tolerance) same
-        (record { formula = formula-number formula hf; white = white-number white hw; l = refl; c = refl; tolerance = refl })
+        (record {
+          formula = formula-number formula hf;
+          white = white-number white hw;
+          l = refl;
+          c = refl;
+          tolerance =
+              refl;
+        })
     go (F.Is f) hf W.Unknown hw h = let no : _≡_ {A = ℕ} 0 1 = cc in absurd (omega arith)
     go F.Unknown hf w hw h = let no : _≡_ {A = ℕ} 0 1 = cc in absurd (omega arith)

@@ -1,4 +1,5 @@
--- Every figure that is handed back is exactly its number of units divided by 2 ^ 20: none is beyond 2 ^ 53 units. Assumes nothing.
+-- Every figure that is handed back is exactly its number of units divided by 2 ^ 20: none is beyond 2 ^ 53 units.
+-- Assumes nothing.
 use Prim.Native.Nat.{_^_}
 use native.Mathlib.Omega.{arith}
 use lib.IntN.{ℤ, pos}
@@ -67,7 +68,8 @@ pub record SpecimenExact (j : Judgement) (F : SpecimenFigures) : Type 0 where
   pub DE : Exact (pos (j .comparison .differences .DE)) (F .DE)
 
 in-range-exact :
-    (j : Judgement) → OnGrid (j .test) → ComparisonInRange (j .comparison) → SpecimenExact j (specimenAnswer (Judged j) .figures)
+    (j : Judgement) → OnGrid (j .test) → ComparisonInRange (j .comparison) →
+    SpecimenExact j (specimenAnswer (Judged j) .figures)
 unfolding specimenAnswer specimenFigures
 in-range-exact j g h =
     record {
@@ -81,6 +83,9 @@ in-range-exact j g h =
       DE = value-exact (pos (j .comparison .differences .DE)) (omega (arith, h .DE));
     }
 
-pub specimen-exact : (s : Standard) (T : GridColour) → Specimen s T → SpecimenExact (judgementOf s T) (specimenAnswer (Judged (judgementOf s T)) .figures)
+pub specimen-exact :
+    (s : Standard) (T : GridColour) → Specimen s T →
+    SpecimenExact (judgementOf s T) (specimenAnswer (Judged (judgementOf s T)) .figures)
 unfolding judgementOf
-specimen-exact s T h = in-range-exact (judgementOf s T) (h .test) (comparison-in-range (s .settings .formula) (in-range h))
+specimen-exact s T h =
+    in-range-exact (judgementOf s T) (h .test) (comparison-in-range (s .settings .formula) (in-range h))

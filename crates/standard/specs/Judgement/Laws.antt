@@ -1,4 +1,5 @@
--- What callers use of a judgement: where it comes from, its number, and that its verdict is 01's on its DE. Assumes nothing.
+-- What callers use of a judgement: where it comes from, its number, and that its verdict is that of SCOPE 6.4 on its
+-- DE. Assumes nothing.
 use mathlib.Core.Path.{_≡_, refl, sym, ap, _∙_}
 use Prim.Native.Nat.{ℕ}
 use native.Mathlib.Omega.{arith}
@@ -16,7 +17,8 @@ use Rattle.standard.specs.Judgement.{judgementOf, outcome, numberOf, Spe
 
 -- what the sheet asks
 pub in-range : {s : Standard} {T : GridColour} → Specimen s T → InRange (s .settings .l) (s .settings .c) (s .colour) T
-in-range h = record { lightness = h .standard .l; chroma = h .standard .c; reference = h .standard .colour; specimen = h .test }
+in-range h =
+    record { lightness = h .standard .l; chroma = h .standard .c; reference = h .standard .colour; specimen = h .test }
 
 -- j is the judgement by s of a test specimen that is placed
 pub record Says (s : Standard) (p : Placed) (j : Judgement) : Type 0 where
@@ -41,10 +43,12 @@ unfolding outcome
 outcome-number s (P.At T) = refl
 outcome-number s (P.Refused n) = refl
 
--- THE VERDICT IS 01's ON THE DE OF THE SHEET: tolerance and DE are of the standard's own formula, and so on one scale
+-- THE VERDICT IS THE RULE'S ON THE DE OF THE SHEET (SCOPE 6.4): tolerance and DE are of the standard's own formula, and
+-- so on one scale
 pub verdict-is :
     (s : Standard) (T : GridColour) →
     judgementOf s T .verdict
-    ≡ verdict 20 (s .settings .tolerance) (sheet 20 (s .settings .formula) (s .settings .l) (s .settings .c) (s .colour) T .DE)
+    ≡ verdict 20 (s .settings .tolerance)
+    (sheet 20 (s .settings .formula) (s .settings .l) (s .settings .c) (s .colour) T .DE)
 unfolding judgementOf comparison
 verdict-is s T = one-scale 20 (s .settings .formula) (s .settings .tolerance) _

@@ -1,12 +1,13 @@
--- What callers use of the order: the first of a list of numbers, by parts of the list; that a lent slice's fault comes last; and that a number is given
--- exactly where its place has it and no earlier place has one. Assumes nothing.
+-- What callers use of the order: the first of a list of numbers, by parts of the list; that a lent slice's fault comes
+-- last; and that a number is given exactly where its place has it and no earlier place has one. Assumes nothing.
 use mathlib.Core.Path.{_≡_, refl, sym, ap, _∙_}
 use mathlib.Core.Bool.{Bool, true, false, cond}
 use mathlib.Core.List.{List, [], _∷_, _++_, map}
 use Prim.Native.Nat.{ℕ}
 use borrow.Author.Tests.{eqb-true, eqb-false, ne-eqb}
 use lib.Dec.{eqb}
-use Rattle.standard.specs.Refusals.{Place, atText, atStation, atFormula, atWhite, atL, atC, atTolerance, atReference, atTest, atRoom}
+use Rattle.standard.specs.Refusals.{Place, atText, atStation, atFormula, atWhite, atL, atC, atTolerance}
+use Rattle.standard.specs.Refusals.{atReference, atTest, atRoom}
 use Rattle.standard.specs.Refusals.{place-discrete, order, Fault, either, numberAt, first, firstOf, refusal}
 
 -- ---- the first of two, and of a list
@@ -42,26 +43,35 @@ firstOf-append (m ∷ ms) ns = go (eqb m 0) refl (firstOf-append ms ns)
 
 -- ---- the order
 
--- 01's order, whatever order the faults are listed in
+-- the order of SCOPE 8.2, whatever order the faults are listed in
 pub in-order :
     (text station formula white l c tolerance reference test room : ℕ) →
     refusal
-    (record { place = atRoom; number = room } ∷ record { place = atTest; number = test } ∷ record { place = atReference; number = reference }
-    ∷ record { place = atTolerance; number = tolerance } ∷ record { place = atC; number = c } ∷ record { place = atL; number = l }
-    ∷ record { place = atWhite; number = white } ∷ record { place = atFormula; number = formula } ∷ record { place = atStation; number = station }
+    (record { place = atRoom; number = room } ∷ record { place = atTest; number = test }
+    ∷ record { place = atReference; number = reference }
+    ∷ record { place = atTolerance; number = tolerance } ∷ record { place = atC; number = c }
+    ∷ record { place = atL; number = l }
+    ∷ record { place = atWhite; number = white } ∷ record { place = atFormula; number = formula }
+    ∷ record { place = atStation; number = station }
     ∷ record { place = atText; number = text } ∷ [])
     ≡ firstOf (text ∷ station ∷ formula ∷ white ∷ l ∷ c ∷ tolerance ∷ reference ∷ test ∷ room ∷ [])
 unfolding refusal numberAt
 in-order text station formula white l c tolerance reference test room = refl
 
 -- a lent slice's fault comes after all others of its list
-pub refusal-room : (fs : List Fault) (n : ℕ) → numberAt fs atRoom ≡ 0 → refusal (record { place = atRoom; number = n } ∷ fs) ≡ first (refusal fs) n
+pub refusal-room :
+    (fs : List Fault) (n : ℕ) → numberAt fs atRoom ≡ 0 → refusal (record { place = atRoom; number = n } ∷ fs)
+    ≡ first (refusal fs) n
 unfolding refusal numberAt firstOf
 refusal-room fs n none =
-    let others : List ℕ = map (numberAt fs) (atText ∷ atStation ∷ atFormula ∷ atWhite ∷ atL ∷ atC ∷ atTolerance ∷ atReference ∷ atTest ∷ []) in
+    let others : List ℕ =
+    map (numberAt fs) (atText ∷ atStation ∷ atFormula ∷ atWhite ∷ atL ∷ atC ∷ atTolerance ∷ atReference ∷ atTest ∷ [])
+    in
     let without : refusal fs ≡ firstOf others =
-    firstOf-append others (numberAt fs atRoom ∷ []) ∙ ap (first (firstOf others)) (first-zero _ ∙ none) ∙ first-zero (firstOf others) in
-    firstOf-append others (n ∷ []) ∙ ap (first (firstOf others)) (first-zero n) ∙ ap (λ (m : ℕ). first m n) (sym without)
+    firstOf-append others (numberAt fs atRoom ∷ []) ∙ ap (first (firstOf others)) (first-zero _ ∙ none)
+    ∙ first-zero (firstOf others) in
+    firstOf-append others (n ∷ []) ∙ ap (first (firstOf others)) (first-zero n)
+    ∙ ap (λ (m : ℕ). first m n) (sym without)
 
 -- ---- what a number means
 
@@ -71,7 +81,8 @@ pub data FirstAt (fs : List Fault) (p : Place) : List Place → Type 0 where
   later : {q : Place} {ps : List Place} → numberAt fs q ≡ 0 → FirstAt fs p ps → FirstAt fs p (q ∷ ps)
 
 -- A NUMBER IS GIVEN EXACTLY WHERE ITS PLACE HAS IT AND NO EARLIER PLACE HAS ONE
-given : (fs : List Fault) {p : Place} {ps : List Place} → FirstAt fs p ps → firstOf (map (numberAt fs) ps) ≡ numberAt fs p
+given :
+    (fs : List Fault) {p : Place} {ps : List Place} → FirstAt fs p ps → firstOf (map (numberAt fs) ps) ≡ numberAt fs p
 unfolding firstOf
 given fs (here h) = first-some _ h
 given fs (later z f) = rw z (given fs f)
@@ -80,7 +91,8 @@ pub refusal-given : (fs : List Fault) {p : Place} → FirstAt fs p order → ref
 unfolding refusal
 refusal-given fs f = given fs f
 
-first-at : (fs : List Fault) (ps : List Place) → (firstOf (map (numberAt fs) ps) ≡ 0 → ⊥) → (p : Place) × FirstAt fs p ps
+first-at :
+    (fs : List Fault) (ps : List Place) → (firstOf (map (numberAt fs) ps) ≡ 0 → ⊥) → (p : Place) × FirstAt fs p ps
 unfolding firstOf
 first-at fs [] h = absurd (h refl)
 first-at fs (p ∷ ps) h = go (eqb (numberAt fs p) 0) refl h (first-at fs ps)

@@ -41,7 +41,8 @@ module _ (c : tie.After-accept) where
 
   as-accepted : heldAs (c .accept .result) ≡ heldBy (settingsIn bytes) (placed (colourIn bytes))
   as-accepted =
-      held-is bytes (named .before .before .settings-at .ensures) (named .settings .given .1) (at-colour .colour-at .ensures) (c .accept .ensures)
+      held-is bytes (named .before .before .settings-at .ensures) (named .settings .given .1)
+      (at-colour .colour-at .ensures) (c .accept .ensures)
 
 refused : tie.Need-returns-2
 refused c = let tried = c .before .before in sym (ap heldAs (c .enum-told2 .given .1)) ∙ as-accepted tried

@@ -1,5 +1,5 @@
--- WHAT IS STORED IS READ BACK, and every slice that holds a standard is the one that storing it leaves: encoding and decoding undo each other.
--- Assumes nothing.
+-- WHAT IS STORED IS READ BACK, and every slice that holds a standard is the one that storing it leaves: encoding and
+-- decoding undo each other. Assumes nothing.
 use mathlib.Core.Path.{_≡_, refl, sym, ap, ap₂, _∙_}
 use mathlib.Core.Bool.{Bool, true, false, cond}
 use mathlib.Core.List.{List, [], _∷_, _++_}
@@ -25,9 +25,11 @@ use Rattle.standard.specs.declared.accept.SettingsOf.the-variants as S
 use Rattle.standard.specs.declared.accept.Acceptance.{Acceptance}
 use Rattle.standard.specs.declared.accept.Acceptance.the-variants.{Refused, Accepted}
 use Rattle.station.specs.declared.Station.the-variants.{Empty, Holds}
-use Rattle.station.specs.Record.{le2, le4, two, four, twosOf, ofTwos, recordOf, encode, settingsIn, colourIn, placed, heldAs, heldBy, decode, zeros}
+use Rattle.station.specs.Record.{le2, le4, two, four, twosOf, ofTwos, recordOf, encode, settingsIn, colourIn}
+use Rattle.station.specs.Record.{placed, heldAs, heldBy, decode, zeros}
 use Rattle.station.specs.Record.Laws.{decode-held, placed-on-grid, placed-is, placed-at}
-use Rattle.station.specs.Record.Numbers.{two-bytes, four-bytes, le2-back, le4-back, ofTwos-back, twosOf-lt, twosOf-back, formula-byte, white-byte}
+use Rattle.station.specs.Record.Numbers.{two-bytes, four-bytes, le2-back, le4-back, ofTwos-back, twosOf-lt}
+use Rattle.station.specs.Record.Numbers.{twosOf-back, formula-byte, white-byte}
 
 -- ---- from a standard to bytes and back
 
@@ -76,7 +78,8 @@ pub record Stands (xs : List ℕ) (s : Standard) : Type 0 where
   pub valid : Valid s
 
 accepted-stands :
-    (xs : List ℕ) (by : Settings) {s : Standard} → length xs ≡ 20 → settingsIn xs ≡ S.Are by → acceptance by (placed (colourIn xs)) ≡ Accepted s → Stands xs s
+    (xs : List ℕ) (by : Settings) {s : Standard} → length xs ≡ 20 → settingsIn xs ≡ S.Are by →
+    acceptance by (placed (colourIn xs)) ≡ Accepted s → Stands xs s
 accepted-stands xs by {s} n e h =
     let from = accepted-made by (placed (colourIn xs)) h in
     record {
@@ -99,7 +102,8 @@ decode-stands xs {s} = go (eqb (length xs) 20) refl (settingsIn xs) refl
         cond p (heldBy q (placed (colourIn xs))) Empty ≡ Holds s → Stands xs s
     go false hp q hq h = let no : _≡_ {A = ℕ} 0 1 = cc in absurd (omega arith)
     go true hp (S.Refused n) hq h = let no : _≡_ {A = ℕ} 0 1 = cc in absurd (omega arith)
-    go true hp (S.Are by) hq h = accepted-stands xs by (eqb-true _ 20 hp) hq (of-held (acceptance by (placed (colourIn xs))) h)
+    go true hp (S.Are by) hq h =
+        accepted-stands xs by (eqb-true _ 20 hp) hq (of-held (acceptance by (placed (colourIn xs))) h)
 
 -- ---- from bytes to a standard and back
 
@@ -110,14 +114,17 @@ listed (suc n) at xs = getD xs at 0 ∷ listed n (suc at) xs
 
 drop-listed : (n at : ℕ) (xs : List ℕ) → at + n ≡ length xs → drop at xs ≡ listed n at xs
 drop-listed zero at xs e = drop-of-length-le xs {i = at} (omega arith)
-drop-listed (suc n) at xs e = drop-cons xs at 0 (omega arith) ∙ ap (_∷_ (getD xs at 0)) (drop-listed n (suc at) xs (omega arith))
+drop-listed (suc n) at xs e =
+    drop-cons xs at 0 (omega arith) ∙ ap (_∷_ (getD xs at 0)) (drop-listed n (suc at) xs (omega arith))
 
 module _ (xs : List ℕ) (bytes : (k : ℕ) → getD xs k 0 < 256) where
   two-back : (at : ℕ) → le2 (two xs at) ≡ getD xs at 0 ∷ getD xs (at + 1) 0 ∷ []
   unfolding two
   two-back at = le2-back _ _ (bytes at) (bytes (at + 1))
 
-  four-back : (at : ℕ) → le4 (twosOf (ofTwos (four xs at))) ≡ getD xs at 0 ∷ getD xs (at + 1) 0 ∷ getD xs (at + 2) 0 ∷ getD xs (at + 3) 0 ∷ []
+  four-back :
+      (at : ℕ) → le4 (twosOf (ofTwos (four xs at))) ≡ getD xs at 0 ∷ getD xs (at + 1) 0 ∷ getD xs (at + 2) 0
+      ∷ getD xs (at + 3) 0 ∷ []
   unfolding four
   four-back at =
       ap le4 (twosOf-back _ (omega (arith, bytes at, bytes (at + 1), bytes (at + 2), bytes (at + 3))))
@@ -129,11 +136,15 @@ module _ (xs : List ℕ) (bytes : (k : ℕ) → getD xs k 0 < 256) where
   decode-only {s} e =
       let h = decode-stands xs e in
       let by = settings-only _ _ _ _ _ (h .settings) in
-      let at : (f : GridColour → ℤ) → le4 (twosOf (f (s .colour))) ≡ le4 (twosOf (f (colourIn xs))) = λ f. ap (λ (c : GridColour). le4 (twosOf (f c))) (sym (h .colour)) in
+      let at : (f : GridColour → ℤ) → le4 (twosOf (f (s .colour))) ≡ le4 (twosOf (f (colourIn xs))) =
+      λ f. ap (λ (c : GridColour). le4 (twosOf (f c))) (sym (h .colour)) in
       drop-listed 20 0 xs (omega (arith, h .full))
-      ∙ sym (ap₂ _∷_ (formula-byte (s .settings .formula) ∙ sym (by .formula)) (ap₂ _∷_ (white-byte (s .settings .white) ∙ sym (by .white))
-      (ap₂ _++_ (ap le2 (sym (by .l)) ∙ two-back 2) (ap₂ _++_ (ap le2 (sym (by .c)) ∙ two-back 4) (ap₂ _++_ (ap le2 (sym (by .tolerance)) ∙ two-back 6)
-      (ap₂ _++_ (at (λ c. c .L .0) ∙ four-back 8) (ap₂ _++_ (at (λ c. c .a .0) ∙ four-back 12) (at (λ c. c .b .0) ∙ four-back 16))))))))
+      ∙ sym (ap₂ _∷_ (formula-byte (s .settings .formula) ∙ sym (by .formula))
+      (ap₂ _∷_ (white-byte (s .settings .white) ∙ sym (by .white))
+      (ap₂ _++_ (ap le2 (sym (by .l)) ∙ two-back 2)
+      (ap₂ _++_ (ap le2 (sym (by .c)) ∙ two-back 4) (ap₂ _++_ (ap le2 (sym (by .tolerance)) ∙ two-back 6)
+      (ap₂ _++_ (at (λ c. c .L .0) ∙ four-back 8)
+      (ap₂ _++_ (at (λ c. c .a .0) ∙ four-back 12) (at (λ c. c .b .0) ∙ four-back 16))))))))
 
 -- ---- a slice that the host has just cleared
 

@@ -19,7 +19,9 @@ use Rattle.sheet.specs.declared.formula.Formula.the-variants.{CIELAB, CIE94, CM
 use Rattle.station.specs.Record.{le2, le4, twosOf, ofTwos}
 use Rattle.station.specs.Record.Laws.{ofTwos-low, ofTwos-high, twosOf-below, twosOf-not-below}
 
-sum-up : (n p q r a b c : ℕ) → p * 256 + a ≡ n → q * 256 + b ≡ p → r * 256 + c ≡ q → a + b * 256 + c * 65536 + r * 16777216 ≡ n
+sum-up :
+    (n p q r a b c : ℕ) → p * 256 + a ≡ n → q * 256 + b ≡ p → r * 256 + c ≡ q →
+    a + b * 256 + c * 65536 + r * 16777216 ≡ n
 sum-up n p q r a b c x y z = omega arith
 
 pub two-bytes : (n : ℕ) → n < 65536 → n % 256 + n / 256 % 256 * 256 ≡ n
@@ -27,7 +29,9 @@ two-bytes n h =
     let top : n / 256 % 256 ≡ n / 256 = mod-eq-of-lt (omega arith) in
     rw top (omega (arith, div-add-mod' n 256))
 
-pub four-bytes : (n : ℕ) → n < 4294967296 → n % 256 + n / 256 % 256 * 256 + n / 65536 % 256 * 65536 + n / 16777216 % 256 * 16777216 ≡ n
+pub four-bytes :
+    (n : ℕ) → n < 4294967296 → n % 256 + n / 256 % 256 * 256 + n / 65536 % 256 * 65536 + n / 16777216 % 256 * 16777216
+    ≡ n
 four-bytes n h =
     let p : n / 65536 ≡ n / 256 / 256 = sym (div-div-eq-div-mul n 256 256) in
     let q : n / 16777216 ≡ n / 256 / 256 / 256 = sym (div-div-eq-div-mul n 65536 256) ∙ ap (λ (k : ℕ). k / 256) p in
@@ -50,16 +54,29 @@ le2-back a b ha hb =
     cc
 
 -- four bytes, one within the other, are the least and the three above it
-le4-nested : (a b c d : ℕ) → a < 256 → b < 256 → c < 256 → d < 256 → le4 (a + (b + (c + d * 256) * 256) * 256) ≡ a ∷ b ∷ c ∷ d ∷ []
+le4-nested :
+    (a b c d : ℕ) → a < 256 → b < 256 → c < 256 → d < 256 → le4 (a + (b + (c + d * 256) * 256) * 256) ≡ a ∷ b ∷ c ∷ d
+    ∷ []
 le4-nested a b c d ha hb hc hd =
     let n : ℕ = a + (b + (c + d * 256) * 256) * 256 in
     let once : n / 256 ≡ b + (c + d * 256) * 256 = high-bytes a (b + (c + d * 256) * 256) ha in
     let twice : n / 65536 ≡ c + d * 256 =
     sym (div-div-eq-div-mul n 256 256) ∙ ap (λ (k : ℕ). k / 256) once ∙ high-bytes b (c + d * 256) hb in
-    let thrice : n / 16777216 ≡ d = sym (div-div-eq-div-mul n 65536 256) ∙ ap (λ (k : ℕ). k / 256) twice ∙ high-bytes c d hc in
-    rw (once, twice, thrice, low-byte a (b + (c + d * 256) * 256) ha, low-byte b (c + d * 256) hb, low-byte c d hc, mod-eq-of-lt hd)
+    let thrice : n / 16777216 ≡ d =
+    sym (div-div-eq-div-mul n 65536 256) ∙ ap (λ (k : ℕ). k / 256) twice ∙ high-bytes c d hc in
+    rw (
+      once,
+      twice,
+      thrice,
+      low-byte a (b + (c + d * 256) * 256) ha,
+      low-byte b (c + d * 256) hb,
+      low-byte c d hc,
+      mod-eq-of-lt hd,
+    )
 
-pub le4-back : (a b c d : ℕ) → a < 256 → b < 256 → c < 256 → d < 256 → le4 (a + b * 256 + c * 65536 + d * 16777216) ≡ a ∷ b ∷ c ∷ d ∷ []
+pub le4-back :
+    (a b c d : ℕ) → a < 256 → b < 256 → c < 256 → d < 256 → le4 (a + b * 256 + c * 65536 + d * 16777216) ≡ a ∷ b ∷ c ∷ d
+    ∷ []
 le4-back a b c d ha hb hc hd =
     let same : a + b * 256 + c * 65536 + d * 16777216 ≡ a + (b + (c + d * 256) * 256) * 256 = omega arith in
     ap le4 same ∙ le4-nested a b c d ha hb hc hd

@@ -1,5 +1,5 @@
--- THE THEOREM ON RUNS: what any acceptances leave of zeros is what the last accepted one alone leaves, and it reads back as that standard, or as none.
--- Assumes nothing.
+-- THE THEOREM ON RUNS: what any acceptances leave of zeros is what the last accepted one alone leaves, and it reads
+-- back as that standard, or as none. Assumes nothing.
 use mathlib.Core.Path.{_≡_, refl, sym, ap, _∙_}
 use mathlib.Core.List.{List, [], _∷_}
 use Prim.Native.Nat.{ℕ}
@@ -28,7 +28,8 @@ run-from : (last : Station) (run : List Acceptance) → leftBy (fresh last) run 
 unfolding leftBy lastFrom fresh
 run-from last [] = refl
 run-from last (Refused n ∷ run) = run-from last run
-run-from last (Accepted s ∷ run) = ap (λ (xs : List ℕ). leftBy xs run) (store-same s (fresh last) (fresh-length last)) ∙ run-from (Holds s) run
+run-from last (Accepted s ∷ run) =
+    ap (λ (xs : List ℕ). leftBy xs run) (store-same s (fresh last) (fresh-length last)) ∙ run-from (Holds s) run
 
 pub run-left : (run : List Acceptance) → leftBy zeros run ≡ fresh (lastAccepted run)
 unfolding fresh
@@ -40,7 +41,9 @@ pub data AllValid : List Acceptance → Type 0 where
   none : AllValid []
   more : {a : Acceptance} {run : List Acceptance} → ValidIn a → AllValid run → AllValid (a ∷ run)
 
-last-holds : (last : Station) → decode (fresh last) ≡ last → (run : List Acceptance) → AllValid run → decode (fresh (lastFrom last run)) ≡ lastFrom last run
+last-holds :
+    (last : Station) → decode (fresh last) ≡ last → (run : List Acceptance) → AllValid run →
+    decode (fresh (lastFrom last run)) ≡ lastFrom last run
 unfolding lastFrom fresh
 last-holds last h [] all = h
 last-holds last h (Refused n ∷ run) (more v all) = last-holds last h run all

@@ -1,4 +1,5 @@
--- The whole ones and the rest, each in ten-thousandths rounded down, are together the number so rounded. Assumes nothing.
+-- The whole ones and the rest, each in ten-thousandths rounded down, are together the number so rounded.
+-- Assumes nothing.
 use mathlib.Core.Path.{_≡_, sym, ap, ap₂, _∙_}
 use mathlib.Core.Bool.{Bool, _&&_}
 use mathlib.Core.Logic.{⊎-elim}
@@ -21,7 +22,8 @@ shown-is m = sym (shown-split 4 (2 ^ 20) m (omega arith))
 
 figure-is :
     (below : Bool) (m : ℕ) {minus : Bool} → minus ≡ (below && ltb 0 (ten-thousandths m)) →
-    _≡_ {A = Shown} (record { places = 4; minus = minus; whole = ten-thousandths m / 10000; units = ten-thousandths m }) (figure below m)
+    _≡_ {A = Shown} (record { places = 4; minus = minus; whole = ten-thousandths m / 10000; units = ten-thousandths m })
+    (figure below m)
 figure-is below m e =
     ap₂
     (λ (b : Bool) (s : ℕ). record { places = 4; minus = b; whole = s / 10000; units = s })
@@ -32,7 +34,8 @@ returns : tie.Need-returns
 returns c =
     let a = c .before .args in
     let shows : Bool → Bool = λ b. b && ltb 0 (ten-thousandths (a .m)) in
-    figure-is (a .below) (a .m) (⊎-elim (λ w. w .1 ∙ sym (ap shows (w .0 .taken))) (λ w. w .1 ∙ sym (ap shows (w .0 .left))) (c .if1 .came))
+    figure-is (a .below) (a .m)
+    (⊎-elim (λ w. w .1 ∙ sym (ap shows (w .0 .taken))) (λ w. w .1 ∙ sym (ap shows (w .0 .left))) (c .if1 .came))
 
 pub figure-of-spec : {M : Type 1} → statement M
 figure-of-spec = tie.close (tie.spec (λ c. search needs) (λ c. search needs) (λ c. search needs) returns)

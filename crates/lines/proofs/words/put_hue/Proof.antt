@@ -11,13 +11,15 @@ axes-requires : tie.Need-put-axes-requires
 axes-requires c κs =
     let arm = c .before .before in
     let shown = arm .before .before in
-    room-as (hue-axes (arm .x .given .0 .0) (arm .x .given .0 .1 .0)) (rw (shown .if1 .left, arm .x .given .1) at (shown .before .before .pre))
+    room-as (hue-axes (arm .x .given .0 .0) (arm .x .given .0 .1 .0))
+    (rw (shown .if1 .left, arm .x .given .1) at (shown .before .before .pre))
 
 axes : tie.Need-returns-3
 axes c =
     let put = c .before .before in
     let arm = put .before .before .before in
-    rw (arm .before .before .if1 .left, arm .x .given .1) (puts-as (sym (hue-axes (arm .x .given .0 .0) (arm .x .given .0 .1 .0))) (put .put-axes .ensures))
+    rw (arm .before .before .if1 .left, arm .x .given .1)
+    (puts-as (sym (hue-axes (arm .x .given .0 .0) (arm .x .given .0 .1 .0))) (put .put-axes .ensures))
 
 pub put-hue-spec : {M : Type 1} → statement M
 unfolding line

@@ -7,7 +7,8 @@ use mir.Syntax.{w64}
 use mir.Val.{toZ, ofZ}
 use Rattle.sheet.specs.declared.differences.Differences.{Differences}
 use Rattle.text.specs.Put.{joined}
-use Rattle.text.specs.Put.Laws.{RoomForAll, room-as, puts-as, room-for-all, room-first, room-second, room-third, room-fourth, puts-four, puts-joined}
+use Rattle.text.specs.Put.Laws.{RoomForAll, room-as, puts-as, room-for-all, room-first, room-second, room-third}
+use Rattle.text.specs.Put.Laws.{room-fourth, puts-four, puts-joined}
 use Rattle.lines.specs.Lines.{signedFigure}
 use Rattle.report.specs.Report.{figureLines}
 use Rattle.report.specs.Report.Laws.{figuresShown, figures-shown}
@@ -43,13 +44,16 @@ module _ (shown : tie.After-signed-figure3) where
 
   abbrev lines : List (List ℕ)
   lines =
-      figuresShown (start .args .withheld) (DE-shown .figure-of .result) (DL-shown .signed-figure .result) (DC-shown .signed-figure2 .result)
+      figuresShown (start .args .withheld) (DE-shown .figure-of .result) (DL-shown .signed-figure .result)
+      (DC-shown .signed-figure2 .result)
       (shown .signed-figure3 .result)
 
   as-shown : figureLines (start .args .withheld) d ≡ lines
   as-shown =
-      figures-shown (start .args .withheld) d (DE-shown .figure-of .ensures) (DL-shown .signed-figure .ensures ∙ ap signedFigure DL-back)
-      (DC-shown .signed-figure2 .ensures ∙ ap signedFigure DC-back) (shown .signed-figure3 .ensures ∙ ap signedFigure DH-back)
+      figures-shown (start .args .withheld) d (DE-shown .figure-of .ensures)
+      (DL-shown .signed-figure .ensures ∙ ap signedFigure DL-back)
+      (DC-shown .signed-figure2 .ensures ∙ ap signedFigure DC-back)
+      (shown .signed-figure3 .ensures ∙ ap signedFigure DH-back)
 
   row : RoomForAll (start .args .dst .now) (start .args .at) lines
   row = room-for-all lines (room-as (ap joined as-shown) (start .pre))
@@ -73,7 +77,8 @@ DH-requires c κs =
     let DC = c .before .before .before .before in
     let DL = DC .before .before .before .before .before in
     let DE = DL .before .before .before .before .before in
-    room-fourth (row (DE .before .before .before)) (DE .put-number .ensures) (DL .put-number2 .ensures) (DC .put-chromatic .ensures)
+    room-fourth (row (DE .before .before .before)) (DE .put-number .ensures) (DL .put-number2 .ensures)
+    (DC .put-chromatic .ensures)
 
 returns : tie.Need-returns
 returns c =
@@ -83,7 +88,9 @@ returns c =
     let DE = DL .before .before .before .before .before in
     let shown = DE .before .before .before in
     puts-as (sym (ap joined (as-shown shown)))
-    (puts-joined (puts-four (row shown) (DE .put-number .ensures) (DL .put-number2 .ensures) (DC .put-chromatic .ensures) (DH .put-chromatic2 .ensures)))
+    (puts-joined
+    (puts-four (row shown) (DE .put-number .ensures) (DL .put-number2 .ensures) (DC .put-chromatic .ensures)
+    (DH .put-chromatic2 .ensures)))
 
 pub put-figures-spec : {M : Type 1} → statement M
 put-figures-spec =

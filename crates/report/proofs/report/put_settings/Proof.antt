@@ -4,7 +4,8 @@ use mathlib.Core.List.{List}
 use Prim.Native.Nat.{ℕ}
 use borrow.Author.Needs.{needs}
 use Rattle.text.specs.Put.{joined}
-use Rattle.text.specs.Put.Laws.{RoomForAll, room-as, puts-as, room-for-all, room-first, room-second, room-third, room-fourth, puts-four, puts-joined}
+use Rattle.text.specs.Put.Laws.{RoomForAll, room-as, puts-as, room-for-all, room-first, room-second, room-third}
+use Rattle.text.specs.Put.Laws.{room-fourth, puts-four, puts-joined}
 use Rattle.report.specs.Report.{settingLines}
 use Rattle.report.specs.Report.Laws.{settingsShown, settings-shown}
 use Rattle.report.proofs.report.put_settings.Statement.{statement}
@@ -43,7 +44,8 @@ c-requires c κs =
     let l = c .before .before .before .before in
     let white = l .before .before .before .before .before in
     let formula = white .before .before .before .before in
-    room-fourth (row (formula .before .before)) (formula .put-formula .ensures) (white .put-white .ensures) (l .put-number .ensures)
+    room-fourth (row (formula .before .before)) (formula .put-formula .ensures) (white .put-white .ensures)
+    (l .put-number .ensures)
 
 returns : tie.Need-returns
 returns c =
@@ -53,7 +55,9 @@ returns c =
     let formula = white .before .before .before .before in
     let shown = formula .before .before in
     puts-as (sym (ap joined (as-shown shown)))
-    (puts-joined (puts-four (row shown) (formula .put-formula .ensures) (white .put-white .ensures) (l .put-number .ensures) (last .put-number2 .ensures)))
+    (puts-joined
+    (puts-four (row shown) (formula .put-formula .ensures) (white .put-white .ensures) (l .put-number .ensures)
+    (last .put-number2 .ensures)))
 
 pub put-settings-spec : {M : Type 1} → statement M
 put-settings-spec =

@@ -47,9 +47,11 @@ returns c =
     let start = lightness .before .before .before in
     let row = room-for-all (wordLines (start .args .j)) (start .pre) in
     puts-joined
-    (puts-four row (lightness .put-lightness .ensures) (chroma .put-chroma .ensures) (hue .put-hue .ensures) (verdict .put-verdict .ensures))
+    (puts-four row (lightness .put-lightness .ensures) (chroma .put-chroma .ensures) (hue .put-hue .ensures)
+    (verdict .put-verdict .ensures))
 
 pub put-words-spec : {M : Type 1} → statement M
 put-words-spec =
     tie.close
-    (tie.spec put-lightness-requires put-chroma-requires put-hue-requires put-verdict-requires (λ c. search needs) returns)
+    (tie.spec put-lightness-requires put-chroma-requires put-hue-requires put-verdict-requires (λ c. search needs)
+    returns)

@@ -1,5 +1,5 @@
--- With too little room nothing is written. Otherwise the part from the column on is lent to the line writer, and comes back with the report at
--- its start. Assumes nothing.
+-- With too little room nothing is written. Otherwise the part from the column on is lent to the line writer, and comes
+-- back with the report at its start. Assumes nothing.
 use mathlib.Core.Path.{sym, ap, _∙_}
 use mathlib.Core.List.{List, _++_}
 use Prim.Native.Nat.{ℕ, _-_}
@@ -15,13 +15,21 @@ use Rattle.report.proofs.report.write_report.Tie as tie
 past-the-end : tie.Need-returns
 past-the-end c =
     let a = c .before .before .args in
-    record { number-is = sym (write-number-ten _ _ (a .j) (omega arith)); room-is = sym (write-room-kept _ _ (a .j) (omega arith)) }
+    record {
+      number-is = sym (write-number-ten _ _ (a .j) (omega arith));
+      room-is =
+          sym (write-room-kept _ _ (a .j) (omega arith));
+    }
 
 too-short : tie.Need-returns-2
 too-short c =
     let at-length = c .before in
     let a = at-length .before .before .before .args in
-    record { number-is = sym (write-number-ten _ _ (a .j) (omega arith)); room-is = sym (write-room-kept _ _ (a .j) (omega arith)) }
+    record {
+      number-is = sym (write-number-ten _ _ (a .j) (omega arith));
+      room-is =
+          sym (write-room-kept _ _ (a .j) (omega arith));
+    }
 
 written : tie.Need-returns-3
 written c =
@@ -33,7 +41,8 @@ written c =
     record {
       number-is = sym (write-number-zero room (a .column) (a .j) (omega arith));
       room-is =
-          ap (λ (l : List ℕ). take (a .column) room ++ (l ++ drop (length room - a .column) (drop (a .column) room))) (at-lines .write-lines .ensures)
+          ap (λ (l : List ℕ). take (a .column) room ++ (l ++ drop (length room - a .column) (drop (a .column) room)))
+          (at-lines .write-lines .ensures)
           ∙ part-put room (a .column) (reportText (a .j)) (omega arith)
           ∙ sym (write-room-put room (a .column) (a .j) (omega arith));
     }

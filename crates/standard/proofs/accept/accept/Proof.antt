@@ -9,7 +9,8 @@ use Rattle.standard.proofs.accept.accept.Statement.{statement}
 use Rattle.standard.proofs.accept.accept.Tie as tie
 
 not-in-range : tie.Need-returns
-not-in-range c = let at-settings = c .before in settings-refused _ _ (at-settings .range-refusal .ensures) (c .if1 .taken)
+not-in-range c =
+    let at-settings = c .before in settings-refused _ _ (at-settings .range-refusal .ensures) (c .if1 .taken)
 
 -- ---- where the settings have no refusal
 module _ (c : tie.Else1) where
@@ -20,7 +21,9 @@ module _ (c : tie.Else1) where
   in-range = sym (c .before .range-refusal .ensures) ∙ c .if1 .left
 
   -- the reference's place is the one that was matched
-  by-place : {p : Placed} → start .args .reference ≡ p → acceptance (start .args .s) p ≡ acceptance (start .args .s) (start .args .reference)
+  by-place :
+      {p : Placed} → start .args .reference ≡ p →
+      acceptance (start .args .s) p ≡ acceptance (start .args .s) (start .args .reference)
   by-place e = sym (ap (acceptance (start .args .s)) e)
 
 placed : tie.Need-returns-2

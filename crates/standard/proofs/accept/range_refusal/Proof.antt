@@ -28,13 +28,15 @@ out-tolerance : tie.Need-returns-3
 out-tolerance c =
     let at-tolerance = c .before in
     let in-c = at-tolerance .before in
-    sym (tolerance-out _ _ _ (l-in (in-c .before .before)) (c-in in-c) (sym (at-tolerance .is-tolerance .ensures) ∙ not-true _ (c .if3 .taken)))
+    sym (tolerance-out _ _ _ (l-in (in-c .before .before)) (c-in in-c)
+    (sym (at-tolerance .is-tolerance .ensures) ∙ not-true _ (c .if3 .taken)))
 
 none : tie.Need-returns-4
 none c =
     let at-tolerance = c .before in
     let in-c = at-tolerance .before in
-    sym (all-in _ _ _ (l-in (in-c .before .before)) (c-in in-c) (sym (at-tolerance .is-tolerance .ensures) ∙ not-false _ (c .if3 .left)))
+    sym (all-in _ _ _ (l-in (in-c .before .before)) (c-in in-c)
+    (sym (at-tolerance .is-tolerance .ensures) ∙ not-false _ (c .if3 .left)))
 
 pub range-refusal-spec : {M : Type 1} → statement M
 range-refusal-spec =

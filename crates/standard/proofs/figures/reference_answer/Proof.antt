@@ -19,7 +19,8 @@ accepted : tie.Need-returns-2
 unfolding referenceAnswer
 accepted c =
     let at-standard = c .before .before in
-    (λ i. record { number = 0; figures = c .reference-figures .ensures i }) ∙ sym (ap referenceAnswer (at-standard .a2 .given .1))
+    (λ i. record { number = 0; figures = c .reference-figures .ensures i })
+    ∙ sym (ap referenceAnswer (at-standard .a2 .given .1))
 
 pub reference-answer-spec : {M : Type 1} → statement M
 reference-answer-spec = tie.close (tie.spec (λ c. search needs) (λ c. search needs) on-grid refused accepted)

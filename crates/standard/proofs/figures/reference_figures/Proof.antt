@@ -31,7 +31,8 @@ returns c =
     let at-b = at-C .before in
     let at-a = at-b .before in
     let at-L = at-a .before in
-    figures-are _ (at-L .before .semi-axes-of .ensures) (at-L .value .ensures) (at-a .value2 .ensures) (at-b .value3 .ensures)
+    figures-are _ (at-L .before .semi-axes-of .ensures) (at-L .value .ensures) (at-a .value2 .ensures)
+    (at-b .value3 .ensures)
     (at-C .value-of .ensures) (at-SL .value-of2 .ensures) (at-SC .value-of3 .ensures) (c .value-of4 .ensures)
 
 pub reference-figures-spec : {M : Type 1} → statement M

@@ -14,8 +14,10 @@ use Rattle.standard.proofs.figures.specimen_answer.Tie as tie
 
 -- the answer from its figures
 answer-is :
-    {o : Outcome} (j : Judgement) {F : SpecimenFigures} → o ≡ Judged j → F ≡ specimenFigures (j .test) (j .comparison .C) (j .comparison .differences) →
-    _≡_ {A = SpecimenAnswer} (record { number = 0; figures = F; names = Names (j .lightness) (j .chroma) (j .hue) (j .verdict) }) (specimenAnswer o)
+    {o : Outcome} (j : Judgement) {F : SpecimenFigures} → o ≡ Judged j →
+    F ≡ specimenFigures (j .test) (j .comparison .C) (j .comparison .differences) →
+    _≡_ {A = SpecimenAnswer} (record
+    { number = 0; figures = F; names = Names (j .lightness) (j .chroma) (j .hue) (j .verdict) }) (specimenAnswer o)
 unfolding specimenAnswer
 answer-is j h f = rw (h, f)
 
@@ -30,4 +32,5 @@ judged c =
     answer-is _ (at-judgement .o2 .given .1) (c .specimen-figures .ensures)
 
 pub specimen-answer-spec : {M : Type 1} → statement M
-specimen-answer-spec = tie.close (tie.spec (λ c. search needs) (λ c. search needs) (λ c κs. search needs) refused judged)
+specimen-answer-spec =
+    tie.close (tie.spec (λ c. search needs) (λ c. search needs) (λ c κs. search needs) refused judged)

@@ -19,7 +19,8 @@ figures-are :
     (T : GridColour) (m : ℕ) (d : Differences) {L a b C DL DC DH DE : Float} →
     L ≡ valueOf (T .L .0) → a ≡ valueOf (T .a .0) → b ≡ valueOf (T .b .0) → C ≡ valueOf (pos m) →
     DL ≡ valueOf (d .DL) → DC ≡ valueOf (d .DC) → DH ≡ valueOf (d .DH) → DE ≡ valueOf (pos (d .DE)) →
-    _≡_ {A = SpecimenFigures} (record { L = L; a = a; b = b; C = C; DL = DL; DC = DC; DH = DH; DE = DE }) (specimenFigures T m d)
+    _≡_ {A = SpecimenFigures} (record { L = L; a = a; b = b; C = C; DL = DL; DC = DC; DH = DH; DE = DE })
+    (specimenFigures T m d)
 unfolding specimenFigures
 figures-are T m d hL ha hb hC hDL hDC hDH hDE = cc
 

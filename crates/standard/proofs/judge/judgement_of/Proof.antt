@@ -21,10 +21,12 @@ use Rattle.standard.specs.Judgement.{withheldBy, judgementOf}
 use Rattle.standard.proofs.judge.judgement_of.Statement.{statement}
 use Rattle.standard.proofs.judge.judgement_of.Tie as tie
 
-module _ (s : Standard) (T : GridColour) {k : Comparison} (hk : k ≡ comparison 20 (s .settings .formula) (s .settings .l) (s .settings .c) (s .colour) T) where
+module _ (s : Standard) (T : GridColour) {k : Comparison}
+    (hk : k ≡ comparison 20 (s .settings .formula) (s .settings .l) (s .settings .c) (s .colour) T) where
   -- the cross and the dot of the sheet name the hue
   hue-is :
-      {x y a b : ℤ} {hue : Hue} → x ≡ k .cross → y ≡ k .dot → a ≡ s .colour .a .0 → b ≡ s .colour .b .0 → hue ≡ hueNamed x y a b →
+      {x y a b : ℤ} {hue : Hue} → x ≡ k .cross → y ≡ k .dot → a ≡ s .colour .a .0 → b ≡ s .colour .b .0 →
+      hue ≡ hueNamed x y a b →
       hue ≡ hueName (s .colour) T
   hue-is hx hy ha hb h = rw (h, hx, hy, ha, hb, hk) (hue-of-comparison 20 _ _ _ (s .colour) T)
 
@@ -37,7 +39,16 @@ module _ (s : Standard) (T : GridColour) {k : Comparison} (hk : k ≡ comparison
       t ≡ toleranceOn 20 (s .settings .formula) (s .settings .tolerance) → v ≡ verdictOn 20 t (k .scaled) →
       w ≡ withheldBy (s .settings .formula) (s .colour) →
       _≡_ {A = Judgement}
-      (record { standard = s; test = T; comparison = k; lightness = lightness; chroma = chroma; hue = hue; verdict = v; withheld = w })
+      (record {
+        standard = s;
+        test = T;
+        comparison = k;
+        lightness = lightness;
+        chroma = chroma;
+        hue = hue;
+        verdict = v;
+        withheld = w;
+      })
       (judgementOf s T)
   unfolding judgementOf
   judgement-is hl hlightness hc hchroma hh ht hv hw = cc
@@ -82,8 +93,10 @@ returns c =
     let at-verdict = c .before in
     let at-tolerance = at-verdict .before in
     let h = at-tolerance .before in
-    judgement-is _ _ (at-sheet h .comparison-of .ensures) (L-back (at-sheet h)) (at-lightness h .lightness-name .ensures)
-    (C-back (at-sheet h)) (at-chroma h .chroma-name .ensures) (named h) (at-tolerance .tolerance .ensures) (at-verdict .verdict .ensures)
+    judgement-is _ _ (at-sheet h .comparison-of .ensures) (L-back (at-sheet h))
+    (at-lightness h .lightness-name .ensures)
+    (C-back (at-sheet h)) (at-chroma h .chroma-name .ensures) (named h) (at-tolerance .tolerance .ensures)
+    (at-verdict .verdict .ensures)
     (c .is-withheld .ensures)
 
 pub judgement-of-spec : {M : Type 1} → statement M

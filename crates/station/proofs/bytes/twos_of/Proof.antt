@@ -16,7 +16,8 @@ below c =
 not-below : tie.Need-returns-2
 not-below c =
     let s = c .before .before in
-    (rw (toZ-ofZ (s .fits .z)) at (c .magnitude2 .ensures)) ∙ sym (twosOf-not-below _ (rw (toZ-ofZ (s .fits .z)) at (c .before .if1 .left)))
+    (rw (toZ-ofZ (s .fits .z)) at (c .magnitude2 .ensures))
+    ∙ sym (twosOf-not-below _ (rw (toZ-ofZ (s .fits .z)) at (c .before .if1 .left)))
 
 pub twos-of-spec : {M : Type 1} → statement M
 twos-of-spec = tie.close (tie.spec (λ c κs. search needs) (λ c. search needs) below (λ c κs. search needs) not-below)

@@ -40,8 +40,10 @@ returns c =
     let at-white = at-L .before .before in
     let at-formula = at-white .before in
     let s = at-formula .before .before .before in
-    encode-is _ (at-formula .number .ensures) (at-white .number2 .ensures) (at-L .twos-of .ensures ∙ ap twosOf (L-back s))
-    (at-a .twos-of2 .ensures ∙ ap twosOf (a-back s)) (at-b .twos-of3 .ensures ∙ ap twosOf (b-back s)) (c .record-of .ensures)
+    encode-is _ (at-formula .number .ensures) (at-white .number2 .ensures)
+    (at-L .twos-of .ensures ∙ ap twosOf (L-back s))
+    (at-a .twos-of2 .ensures ∙ ap twosOf (a-back s)) (at-b .twos-of3 .ensures ∙ ap twosOf (b-back s))
+    (c .record-of .ensures)
 
 pub bytes-of-spec : {M : Type 1} → statement M
 bytes-of-spec =

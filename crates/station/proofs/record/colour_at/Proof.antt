@@ -13,7 +13,8 @@ use Rattle.station.proofs.record.colour_at.Tie as tie
 
 -- the colour from its numbers
 colour-is :
-    (xs : List ℕ) {L a b : Grid} → L ≡ gridOf (ofTwos (four xs 8)) → a ≡ gridOf (ofTwos (four xs 12)) → b ≡ gridOf (ofTwos (four xs 16)) →
+    (xs : List ℕ) {L a b : Grid} → L ≡ gridOf (ofTwos (four xs 8)) → a ≡ gridOf (ofTwos (four xs 12)) →
+    b ≡ gridOf (ofTwos (four xs 16)) →
     _≡_ {A = GridColour} (record { L = L; a = a; b = b }) (colourIn xs)
 colour-is xs hL ha hb = λ i. record { L = hL i; a = ha i; b = hb i }
 
@@ -25,8 +26,16 @@ module _ (c : tie.After-is-on-grid) where
   abbrev bytes : List ℕ
   bytes = let at-L : tie.After-grid-at = at-b .before .before in at-L .before .before .args .s .now
 
-  read : record { L = at-b .before .before .grid-at .result; a = at-b .before .grid-at2 .result; b = at-b .grid-at3 .result } ≡ colourIn bytes
-  read = colour-is bytes (at-b .before .before .grid-at .ensures) (at-b .before .grid-at2 .ensures) (at-b .grid-at3 .ensures)
+  read :
+      record {
+        L = at-b .before .before .grid-at .result;
+        a = at-b .before .grid-at2 .result;
+        b =
+            at-b .grid-at3 .result;
+      } ≡ colourIn bytes
+  read =
+      colour-is bytes (at-b .before .before .grid-at .ensures) (at-b .before .grid-at2 .ensures)
+      (at-b .grid-at3 .ensures)
 
 on-grid : tie.Need-returns
 on-grid c =

@@ -1,5 +1,5 @@
--- `record::copy` meets its contract. The loop's invariant: the first i bytes are those of src, and the length stays. The measure is what is left.
--- Assumes nothing.
+-- `record::copy` meets its contract. The loop's invariant: the first i bytes are those of src, and the length stays.
+-- The measure is what is left. Assumes nothing.
 use Prim.Native.Nat.{ℕ, _+_, _-_, _≤_, _<_}
 use mathlib.Core.Path.{_≡_, refl, sym, ap, _∙_}
 use mathlib.Core.List.{List, append-nil}
@@ -18,10 +18,13 @@ abbrev μ-loop : tie.MeasureT-loop
 μ-loop dst₀ src i₀ dst i = length src - i
 
 -- a turn's store
-stored-next : (d s d₀ : List ℕ) (j : ℕ) → d ≡ paste d₀ 0 s j → length d₀ ≡ length s → j < length s → set d j (getD s j 0) ≡ paste d₀ 0 s (j + 1)
+stored-next :
+    (d s d₀ : List ℕ) (j : ℕ) → d ≡ paste d₀ 0 s j → length d₀ ≡ length s → j < length s →
+    set d j (getD s j 0) ≡ paste d₀ 0 s (j + 1)
 stored-next d s d₀ j e hd hs =
     rw (e, add-one j)
-    (ap (λ (k : ℕ). set (paste d₀ 0 s j) k (getD s j 0)) (sym (zero-add j)) ∙ paste-suc d₀ 0 s j 0 (omega (arith, zero-add j)) hs)
+    (ap (λ (k : ℕ). set (paste d₀ 0 s j) k (getD s j 0)) (sym (zero-add j))
+    ∙ paste-suc d₀ 0 s j 0 (omega (arith, zero-add j)) hs)
 
 -- all of it
 whole : (d s d₀ : List ℕ) (j : ℕ) → d ≡ paste d₀ 0 s j → length d₀ ≡ length s → length s ≤ j → d ≡ s

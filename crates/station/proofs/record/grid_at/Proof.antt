@@ -12,7 +12,8 @@ returns : tie.Need-returns
 returns c =
     let at-number = c .before in
     let back : toZ w64 (ofZ w64 (at-number .of-twos .result)) ≡ at-number .of-twos .result = search needs in
-    c .of-units .ensures ∙ ap gridOf (back ∙ at-number .of-twos .ensures ∙ ap ofTwos (at-number .before .four-at .ensures))
+    c .of-units .ensures ∙ ap gridOf
+    (back ∙ at-number .of-twos .ensures ∙ ap ofTwos (at-number .before .four-at .ensures))
 
 pub grid-at-spec : {M : Type 1} → statement M
 grid-at-spec = tie.close (tie.spec (λ c κs. search needs) (λ c κs. search needs) (λ c κs. search needs) returns)

@@ -12,7 +12,8 @@ use Rattle.station.proofs.record.settings_at.Tie as tie
 
 -- the settings from their numbers
 settings-are :
-    (xs : List ℕ) {f w l c t : ℕ} {q : SettingsOf} → f ≡ getD xs 0 0 → w ≡ getD xs 1 0 → l ≡ two xs 2 → c ≡ two xs 4 → t ≡ two xs 6 →
+    (xs : List ℕ) {f w l c t : ℕ} {q : SettingsOf} → f ≡ getD xs 0 0 → w ≡ getD xs 1 0 → l ≡ two xs 2 → c ≡ two xs 4 →
+    t ≡ two xs 6 →
     q ≡ settingsOf f w l c t → q ≡ settingsIn xs
 settings-are xs hf hw hl hc ht h = rw (h, hf, hw, hl, hc, ht)
 
@@ -23,7 +24,8 @@ returns c =
     let at-l = at-c .before in
     let at-white = at-l .before in
     let at-formula = at-white .before .before in
-    settings-are _ (at-formula .wide .ensures .0) (at-white .wide2 .ensures .0) (at-l .two-at .ensures) (at-c .two-at2 .ensures)
+    settings-are _ (at-formula .wide .ensures .0) (at-white .wide2 .ensures .0) (at-l .two-at .ensures)
+    (at-c .two-at2 .ensures)
     (at-tolerance .two-at3 .ensures) (c .settings-of .ensures)
 
 pub settings-at-spec : {M : Type 1} → statement M
