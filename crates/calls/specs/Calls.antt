@@ -1,4 +1,5 @@
--- What each call on lent slices answers, and what it leaves in the slice that it may write. Assumes nothing.
+-- docs/SCOPE.md 1.3, 8: what each call on lent slices answers, and what it leaves in the slice that it may write.
+-- Assumes nothing.
 use mathlib.Core.Path.{_≡_, sym, _∙_}
 use mathlib.Core.Bool.{Bool, false, not, cond}
 use mathlib.Core.List.{List, _∷_}
@@ -21,6 +22,7 @@ use Rattle.calls.specs.Outcome.{loaded, loadFaults, judgedBy, judgeFault
 pub mod Laws
 pub mod One
 pub mod Every
+pub mod Ticket
 pub mod Numbers
 pub mod Exact
 
@@ -52,7 +54,8 @@ lengthFault xs = fault atRoom 10 (not (eqb (length xs) 20))
 
 unfoldable pub loadCall : List ℕ → (formula white l c tolerance : ℕ) → Reading → Answer
 loadCall xs formula white l c tolerance r =
-    writing (refusal (lengthFault xs ∷ loadFaults formula white l c tolerance r)) (left xs (loaded (settingsOf formula white l c tolerance) r)) xs
+    writing (refusal (lengthFault xs ∷ loadFaults formula white l c tolerance r))
+    (left xs (loaded (settingsOf formula white l c tolerance) r)) xs
 
 -- ---- a report: with 10 for a room that is shorter than it from the column on
 

@@ -5,3 +5,7 @@ pub mod Outcome
 pub mod Calls
 -- runs of calls
 pub mod Runs
+-- the wrong line in a ticket's answer
+pub mod Line
+-- each refusal exactly then: a row for each call and number
+pub mod Exactly

@@ -1,4 +1,5 @@
--- What a load, a judgement and a ticket come to, and the faults that each can have. Assumes nothing.
+-- docs/SCOPE.md 8.3, 9.4: what a load, a judgement and a ticket come to, and the faults that each can have.
+-- Assumes nothing.
 use mathlib.Core.Bool.{true}
 use mathlib.Core.List.{List, [], _∷_, _++_}
 use Prim.Native.Nat.{ℕ}
@@ -23,7 +24,8 @@ use Rattle.standard.specs.declared.judge.Outcome.the-variants.{Refused}
 use Rattle.station.specs.declared.Station.{Station}
 use Rattle.station.specs.declared.Station.the-variants.{Empty, Holds}
 pub mod Load
-pub mod Laws
+pub mod Judge
+pub mod Ticket
 pub mod Each
 
 -- ---- a load
@@ -63,7 +65,8 @@ judgedAfter (A.Accepted s) test = outcome s test
 unfoldable pub ticketOutcome : Parsed → Outcome
 ticketOutcome (Wrong line) = Refused 7
 ticketOutcome (Right t) =
-    judgedAfter (acceptance (t .settings) (placeWritten (t .settings .white) (t .reference))) (placeWritten (t .settings .white) (t .test))
+    judgedAfter (acceptance (t .settings) (placeWritten (t .settings .white) (t .reference)))
+    (placeWritten (t .settings .white) (t .test))
 
 -- a wrong text brings nothing to find another fault in, and a right one names no formula or white but those there are
 unfoldable pub ticketFaults : Parsed → List Fault

@@ -1,4 +1,5 @@
--- 01-scope.md, demand 2 over runs of calls: the station's slice starts as zeros, and each call gets it as the call before left it. Assumes nothing.
+-- docs/SCOPE.md 1.4, 2.2: runs of calls. The station's slice starts as zeros, and each call gets it as the call before
+-- left it. Assumes nothing.
 use mathlib.Core.Path.{_≡_}
 use mathlib.Core.List.{List, [], _∷_}
 use Prim.Native.Nat.{ℕ}
@@ -19,7 +20,8 @@ pub data Call : Type 0 where
 -- the slice after a run: only a load can write it
 unfoldable pub sliceAfter : List ℕ → List Call → List ℕ
 sliceAfter xs [] = xs
-sliceAfter xs (load formula white l c tolerance r ∷ cs) = sliceAfter (loadCall xs formula white l c tolerance r .bytes) cs
+sliceAfter xs (load formula white l c tolerance r ∷ cs) =
+    sliceAfter (loadCall xs formula white l c tolerance r .bytes) cs
 sliceAfter xs (judge r room column ∷ cs) = sliceAfter xs cs
 sliceAfter xs (ticket text room column ∷ cs) = sliceAfter xs cs
 
@@ -30,8 +32,8 @@ loads (load formula white l c tolerance r ∷ cs) = loaded (settingsOf formula w
 loads (judge r room column ∷ cs) = loads cs
 loads (ticket text room column ∷ cs) = loads cs
 
--- whatever calls from zeros left the station's slice as xs, a judgement's number n and room ys are those of a freshly started station that was given
--- the last accepted standard alone, or none
+-- whatever calls from zeros left the station's slice as xs, a judgement's number n and room ys are those of a freshly
+-- started station that was given the last accepted standard alone, or none
 abbrev pub AsFresh : (xs : List ℕ) → Reading → (room : List ℕ) (column n : ℕ) (ys : List ℕ) → Type 0
 AsFresh xs r room column n ys =
     (cs : List Call) → xs ≡ sliceAfter zeros cs → Gives (judgeCall (fresh (lastAccepted (loads cs))) r room column) n ys

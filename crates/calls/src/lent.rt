@@ -46,8 +46,8 @@ fn report_on(o: Outcome, room: &mut [u8], column: usize) -> u32
     }
 }
 
-// Judges a test specimen by the standard in the station's slice, and writes the report. After any run of calls from zeros the answer and the
-// room are those of a freshly started station that was given the last accepted standard alone.
+// Judges a test specimen by the standard in the station's slice, and writes the report. After any run of calls from
+// zeros the answer and the room are those of a freshly started station that was given the last accepted standard alone.
 pub fn judge_call(station: &[u8], r: Reading, room: &mut [u8], column: usize) -> u32
     ensures { λ n. ⌜ Gives (judgeCall (now (station .entry)) r (now (room .entry)) column) n (now (room .exit)) ⌝ }
     ensures run { λ n. ⌜ AsFresh (now (station .entry)) r (now (room .entry)) column n (now (room .exit)) ⌝ }

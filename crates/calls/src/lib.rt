@@ -3,7 +3,9 @@ mod figures;
 mod lent;
 mod outcome;
 
+pub use figures::TicketAnswer;
 pub use figures::judge_figures;
+pub use figures::line_of;
 pub use figures::load_figures;
 pub use figures::ticket_figures;
 pub use lent::judge_call;

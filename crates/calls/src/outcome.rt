@@ -18,7 +18,7 @@ ghost use Rattle.standard.specs.Acceptance.{settingsOf};
 ghost use Rattle.station.specs.Record.{decode};
 ghost use Rattle.calls.specs.Outcome.{loaded, judgedBy, ticketOutcome};
 
-// A load.
+// A load. Its reference is read in the white that it names.
 pub(crate) fn load_outcome(
     formula: u32,
     white: u32,

@@ -1,5 +1,5 @@
--- 01-scope.md, "Ticket and report": what the program prints for a text. `Printed/Laws.antt` has each way out and that there is one outcome,
--- `Printed/Cases.antt` whole texts with what is printed for them. Assumes nothing.
+-- docs/SCOPE.md 11: what the program prints for a text. `Printed/Laws.antt` has each way out, `Printed/Cases.antt`
+-- whole texts with what is printed for them. Assumes nothing.
 use mathlib.Core.Path.{_≡_, sym, _∙_}
 use mathlib.Core.Bool.{Bool, cond}
 use mathlib.Core.List.{List, [], _∷_}
@@ -10,12 +10,11 @@ use Rattle.text.specs.Ascii.{ascii}
 use Rattle.text.specs.Put.{putAt, joined}
 use Rattle.text.specs.Decimal.{wholeText}
 use Rattle.ticket.specs.Ticket.{ticketOf}
-use Rattle.ticket.specs.declared.lines.Parsed.{Parsed}
-use Rattle.ticket.specs.declared.lines.Parsed.the-variants.{Right, Wrong}
 use Rattle.report.specs.Report.{reportText}
 use Rattle.standard.specs.declared.judge.Outcome.{Outcome}
 use Rattle.standard.specs.declared.judge.Outcome.the-variants.{Refused, Judged}
 use Rattle.calls.specs.Outcome.{ticketOutcome}
+pub use Rattle.calls.specs.Line.{lineOf}
 pub mod Laws
 pub mod Cases
 
@@ -30,16 +29,11 @@ refusalLine number line = joined (refusalPieces number line)
 
 -- ---- what is printed
 
--- the line that a refusal names: the first wrong one, and 0 where the text is right
-abbrev pub lineOf : Parsed → ℕ
-lineOf (Right t) = 0
-lineOf (Wrong line) = line
-
 abbrev pub outcomeText : Outcome → (line : ℕ) → List ℕ
 outcomeText (Refused number) line = refusalLine number line
 outcomeText (Judged j) line = reportText j
 
--- THE PROGRAM: from the bytes of standard input to those of standard output
+-- THE PROGRAM, its line that of a ticket's answer: from the bytes of standard input to those of standard output
 unfoldable pub printedText : List ℕ → List ℕ
 printedText text = outcomeText (ticketOutcome (ticketOf text)) (lineOf (ticketOf text))
 
@@ -48,12 +42,14 @@ printedText text = outcomeText (ticketOutcome (ticketOf text)) (lineOf (ticketOf
 abbrev pub fits : (out s : List ℕ) → Bool
 fits out s = leb (length s) (length out)
 
--- s at the start of the slice, every other byte as it was, and how long s is; or 0 and the slice unchanged, where it is too short for s
+-- s at the start of the slice, every other byte as it was, and how long s is; or 0 and the slice unchanged, where it is
+-- too short for s
 pub record Prints (before s : List ℕ) (n : ℕ) (after : List ℕ) : Type 0 where
   pub count : n ≡ cond (fits before s) (length s) 0
   pub bytes : after ≡ cond (fits before s) (putAt before 0 s) before
 
 -- ANY TWO OUTCOMES THAT A CONTRACT ADMITS ARE EQUAL: the count, and the bytes of the lent slice
 pub prints-one :
-    {before s : List ℕ} {n m : ℕ} {after others : List ℕ} → Prints before s n after → Prints before s m others → (n ≡ m) × (after ≡ others)
+    {before s : List ℕ} {n m : ℕ} {after others : List ℕ} →
+    Prints before s n after → Prints before s m others → (n ≡ m) × (after ≡ others)
 prints-one p q = (p .count ∙ sym (q .count), p .bytes ∙ sym (q .bytes))

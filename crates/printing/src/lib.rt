@@ -1,27 +1,16 @@
 // What the program prints for a text.
 mod refusal;
 
+use calls::line_of;
 use calls::ticket_outcome;
 use refusal::print_refusal;
 use report::report_len;
 use report::write_report;
 use standard::judge::Judgement;
 use standard::judge::Outcome;
-use ticket::lines::Parsed;
 use ticket::lines::parse;
-ghost use mathlib.Core.Path.{_≡_};
 ghost use Rattle.report.specs.Report.{reportText};
-ghost use Rattle.printing.specs.Printed.{Prints, lineOf, printedText};
-
-// The line that a refusal names: 0 for all but 7.
-fn line_of(p: Parsed) -> u32
-    ensures { λ n. ⌜ n ≡ lineOf p ⌝ }
-{
-    match p {
-        Parsed::Right(_) => 0,
-        Parsed::Wrong(line) => line,
-    }
-}
+ghost use Rattle.printing.specs.Printed.{Prints, printedText};
 
 fn print_report(j: Judgement, out: &mut [u8]) -> usize
     ensures { λ n. ⌜ Prints (now (out .entry)) (reportText j) n (now (out .exit)) ⌝ }
@@ -33,8 +22,8 @@ fn print_report(j: Judgement, out: &mut [u8]) -> usize
     }
 }
 
-// Puts what the program prints for a text at the start of `out`, and answers how many bytes that is; where `out` is too short for it, the answer
-// is 0 and `out` stays.
+// Puts what the program prints for a text at the start of `out`, and answers how many bytes that is; where `out` is too
+// short for it, the answer is 0 and `out` stays.
 pub fn printed(text: &[u8], out: &mut [u8]) -> usize
     ensures { λ n. ⌜ Prints (now (out .entry)) (printedText (now (text .entry))) n (now (out .exit)) ⌝ }
 {

@@ -16,7 +16,8 @@ fn put_refusal(dst: &mut [u8], number: u64, line: u64) -> usize
     put(dst, after_line, b"\n")
 }
 
-// Puts the line at the start of `out`, and answers how many bytes that is; where `out` is too short for it, the answer is 0 and `out` stays.
+// Puts the line at the start of `out`, and answers how many bytes that is; where `out` is too short for it, the answer
+// is 0 and `out` stays.
 pub(crate) fn print_refusal(number: u64, line: u64, out: &mut [u8]) -> usize
     ensures { λ n. ⌜ Prints (now (out .entry)) (refusalLine number line) n (now (out .exit)) ⌝ }
 {

@@ -32,5 +32,6 @@ pub numbered-placed :
     m ≡ n → m ≡ Is w → p ≡ place w r → given ≡ placedAnswer p out → given ≡ numberedAnswer n r out
 numbered-placed r out e f g h = cc
 
-pub numbered-unknown : {m n : Numbered} (r : Reading) (out : List ℤ) → m ≡ n → m ≡ Unknown → answer 2 out ≡ numberedAnswer n r out
+pub numbered-unknown :
+    {m n : Numbered} (r : Reading) (out : List ℤ) → m ≡ n → m ≡ Unknown → answer 2 out ≡ numberedAnswer n r out
 numbered-unknown r out e f = cc

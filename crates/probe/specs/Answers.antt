@@ -1,4 +1,5 @@
--- What load, judge and ticket hand back, as C takes it: figures as floats, names and the verdict as numbers. Assumes nothing.
+-- What load, judge and ticket hand back, as C takes it: figures as floats, names and the verdict as numbers.
+-- Assumes nothing.
 use Prim.Native.Nat.{ℕ}
 use Rattle.sheet.specs.declared.verdict.Verdict.{Verdict}
 use Rattle.sheet.specs.declared.verdict.Verdict.the-variants.{Near, Pass, Fail}
@@ -15,7 +16,7 @@ use Rattle.probe.specs.declared.answers.Reference.{Reference}
 use Rattle.probe.specs.declared.answers.Specimen.{Specimen}
 use Rattle.probe.specs.declared.answers.Words.{Words}
 
--- ---- names and the verdict, counted from 1 in 01's order
+-- ---- names and the verdict, counted from 1 in the order of SCOPE 6.4 and 7
 
 abbrev pub lightnessNumber : Lightness.Lightness → ℕ
 lightnessNumber Lightness.the-variants.Lighter = 1

@@ -29,7 +29,7 @@ decimalOf below millionths = record { below = not (eqb below 0); millionths = mi
 
 -- ---- what it answers
 
--- the number that a call returns, 0 or 01's number of a refusal, and what `out` then holds
+-- the number that a call returns, 0 or its refusal's number, and what `out` then holds
 pub record Answer : Type 0 where
   pub number : ℕ
   pub holds : List ℤ

@@ -3,3 +3,5 @@
 pub mod Ground
 -- what load, judge and ticket hand back
 pub mod Answers
+-- any two outcomes that a contract admits are equal
+pub mod One

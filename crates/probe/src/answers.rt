@@ -16,8 +16,10 @@ ghost use Rattle.standard.specs.Acceptance.{settingsOf};
 ghost use Rattle.standard.specs.Figures.{referenceAnswer, specimenAnswer};
 ghost use Rattle.ticket.specs.Ticket.{ticketOf};
 ghost use Rattle.station.specs.Record.{decode};
-ghost use Rattle.calls.specs.Outcome.{loaded, judgedBy, ticketOutcome};
-ghost use Rattle.probe.specs.Answers.{lightnessNumber, chromaNumber, axisNumber, hueNumber, bracketNumber, verdictNumber, wordsOf, referenceOf, specimenOf};
+ghost use Rattle.calls.specs.Outcome.{loaded, judgedBy};
+ghost use Rattle.calls.specs.Line.{ticketAnswer};
+ghost use Rattle.probe.specs.Answers.{lightnessNumber, chromaNumber, axisNumber, hueNumber, bracketNumber};
+ghost use Rattle.probe.specs.Answers.{verdictNumber, wordsOf, referenceOf, specimenOf};
 
 // A load's answer: its refusal number or 0, then the reference's figures.
 #[repr(C)]
@@ -32,7 +34,7 @@ pub struct Reference {
     pub sh: f64,
 }
 
-// Names and the verdict, each counted from 1 in 01's order; 0 is none.
+// Names and the verdict, each counted from 1 in the order of SCOPE 6.4 and 7; 0 is none.
 #[repr(C)]
 pub struct Words {
     pub lightness: u32,
@@ -206,7 +208,8 @@ pub extern "C" fn probe_load_lab(
     a: f64,
     b: f64,
 ) -> Reference
-    ensures { λ r. ⌜ r ≡ referenceOf (referenceAnswer (loaded (settingsOf formula white l c tolerance) (Lab lightness a b))) ⌝ }
+    ensures { λ r. ⌜ r ≡ referenceOf (referenceAnswer (loaded (settingsOf formula white l c tolerance)
+        (Lab lightness a b))) ⌝ }
 {
     load_answer(
         formula,
@@ -234,7 +237,18 @@ pub extern "C" fn probe_judge_lab(station: &[u8], lightness: f64, a: f64, b: f64
 
 #[no_mangle]
 pub extern "C" fn probe_ticket(text: &[u8]) -> Specimen
-    ensures { λ a. ⌜ a ≡ specimenOf (specimenAnswer (ticketOutcome (ticketOf (now (text .entry))))) ⌝ }
+    ensures { λ a. ⌜ a ≡ specimenOf (ticketAnswer (ticketOf (now (text .entry))) .answer) ⌝ }
 {
-    specimen_of(ticket_figures(text))
+    let x = ticket_figures(text);
+    let answer = x.answer;
+    specimen_of(answer)
+}
+
+// The line that a ticket's answer carries.
+#[no_mangle]
+pub extern "C" fn probe_ticket_line(text: &[u8]) -> u32
+    ensures { λ n. ⌜ n ≡ ticketAnswer (ticketOf (now (text .entry))) .line ⌝ }
+{
+    let x = ticket_figures(text);
+    x.line
 }

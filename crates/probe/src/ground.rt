@@ -16,7 +16,8 @@ ghost use Rattle.reading.specs.Reading.{floatUnits, decimalUnits};
 ghost use Rattle.reading.specs.Grid.{valueOf};
 ghost use Rattle.colour.specs.declared.placed.Reading.the-variants.{Xyz, Lab};
 ghost use Rattle.colour.specs.White.{whiteNumbered};
-ghost use Rattle.probe.specs.Ground.{quantityOf, decimalOf, answer, unitsAnswer, colourStored, placedAnswer, numberedAnswer};
+ghost use Rattle.probe.specs.Ground.{quantityOf, decimalOf, answer, unitsAnswer, colourStored, placedAnswer};
+ghost use Rattle.probe.specs.Ground.{numberedAnswer};
 
 #[no_mangle]
 pub extern "C" fn probe_square_root(x: u64) -> u64
@@ -61,7 +62,8 @@ fn store_units(u: Units, out: &mut [i64]) -> u32
 // A float's units. Quantity 1 is X, Y or Z, 2 is L*, any other a* or b*.
 #[no_mangle]
 pub extern "C" fn probe_units(quantity: u32, x: f64, out: &mut [i64]) -> u32
-    ensures { λ r. ⌜ answer r (now (out .exit)) ≡ unitsAnswer (floatUnits (quantityOf quantity) x) (now (out .entry)) ⌝ }
+    ensures { λ r.
+        ⌜ answer r (now (out .exit)) ≡ unitsAnswer (floatUnits (quantityOf quantity) x) (now (out .entry)) ⌝ }
 {
     store_units(reading::float::float_units(quantity_of(quantity), x), out)
 }
@@ -69,7 +71,9 @@ pub extern "C" fn probe_units(quantity: u32, x: f64, out: &mut [i64]) -> u32
 // A decimal's units; it is below zero unless `below` is 0.
 #[no_mangle]
 pub extern "C" fn probe_decimal(quantity: u32, below: u32, millionths: u64, out: &mut [i64]) -> u32
-    ensures { λ r. ⌜ answer r (now (out .exit)) ≡ unitsAnswer (decimalUnits (quantityOf quantity) (decimalOf below millionths)) (now (out .entry)) ⌝ }
+    ensures { λ r.
+        ⌜ answer r (now (out .exit)) ≡ unitsAnswer (decimalUnits (quantityOf quantity) (decimalOf below millionths))
+        (now (out .entry)) ⌝ }
 {
     let d = Decimal {
         below: below != 0,
@@ -129,7 +133,8 @@ fn place_numbered(white: u32, r: Reading, out: &mut [i64]) -> u32
 // Where X, Y, Z lie on the grid.
 #[no_mangle]
 pub extern "C" fn probe_place_xyz(white: u32, x: f64, y: f64, z: f64, out: &mut [i64]) -> u32
-    ensures { λ n. ⌜ answer n (now (out .exit)) ≡ numberedAnswer (whiteNumbered white) (Xyz x y z) (now (out .entry)) ⌝ }
+    ensures { λ n.
+        ⌜ answer n (now (out .exit)) ≡ numberedAnswer (whiteNumbered white) (Xyz x y z) (now (out .entry)) ⌝ }
 {
     place_numbered(white, Reading::Xyz(x, y, z), out)
 }
@@ -137,7 +142,8 @@ pub extern "C" fn probe_place_xyz(white: u32, x: f64, y: f64, z: f64, out: &mut 
 // Where L*, a*, b* lie on the grid.
 #[no_mangle]
 pub extern "C" fn probe_place_lab(white: u32, l: f64, a: f64, b: f64, out: &mut [i64]) -> u32
-    ensures { λ n. ⌜ answer n (now (out .exit)) ≡ numberedAnswer (whiteNumbered white) (Lab l a b) (now (out .entry)) ⌝ }
+    ensures { λ n.
+        ⌜ answer n (now (out .exit)) ≡ numberedAnswer (whiteNumbered white) (Lab l a b) (now (out .entry)) ⌝ }
 {
     place_numbered(white, Reading::Lab(l, a, b), out)
 }

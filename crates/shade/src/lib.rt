@@ -3,13 +3,9 @@ use calls::judge_call;
 use calls::load_call;
 use calls::ticket_call;
 use colour::placed::Reading;
-ghost use mathlib.Core.Path.{_≡_};
-ghost use mathlib.Core.List.{List};
 ghost use Rattle.colour.specs.declared.placed.Reading.the-variants.{Xyz, Lab};
-ghost use Rattle.station.specs.Record.{zeros};
-ghost use Rattle.station.specs.Runs.{lastAccepted, fresh};
 ghost use Rattle.calls.specs.Calls.{Gives, loadCall, judgeCall, ticketCall};
-ghost use Rattle.calls.specs.Runs.{Call, sliceAfter, loads};
+ghost use Rattle.calls.specs.Runs.{AsFresh};
 
 #[no_mangle]
 pub extern "C" fn shade_load_xyz(
@@ -23,7 +19,8 @@ pub extern "C" fn shade_load_xyz(
     y: f64,
     z: f64,
 ) -> u32
-    ensures { λ n. ⌜ Gives (loadCall (now (station .entry)) formula white l c tolerance (Xyz x y z)) n (now (station .exit)) ⌝ }
+    ensures { λ n.
+        ⌜ Gives (loadCall (now (station .entry)) formula white l c tolerance (Xyz x y z)) n (now (station .exit)) ⌝ }
 {
     load_call(
         station,
@@ -48,7 +45,9 @@ pub extern "C" fn shade_load_lab(
     a: f64,
     b: f64,
 ) -> u32
-    ensures { λ n. ⌜ Gives (loadCall (now (station .entry)) formula white l c tolerance (Lab lightness a b)) n (now (station .exit)) ⌝ }
+    ensures { λ n.
+        ⌜ Gives (loadCall (now (station .entry)) formula white l c tolerance (Lab lightness a b)) n
+        (now (station .exit)) ⌝ }
 {
     load_call(
         station,
@@ -70,8 +69,10 @@ pub extern "C" fn shade_judge_xyz(
     room: &mut [u8],
     column: usize,
 ) -> u32
-    ensures { λ n. ⌜ Gives (judgeCall (now (station .entry)) (Xyz x y z) (now (room .entry)) column) n (now (room .exit)) ⌝ }
-    ensures run { λ n. ⌜ ((cs : List Call) → now (station .entry) ≡ sliceAfter zeros cs → Gives (judgeCall (fresh (lastAccepted (loads cs))) (Xyz x y z) (now (room .entry)) column) n (now (room .exit))) ⌝ }
+    ensures { λ n.
+        ⌜ Gives (judgeCall (now (station .entry)) (Xyz x y z) (now (room .entry)) column) n (now (room .exit)) ⌝ }
+    ensures run { λ n.
+        ⌜ AsFresh (now (station .entry)) (Xyz x y z) (now (room .entry)) column n (now (room .exit)) ⌝ }
 {
     judge_call(station, Reading::Xyz(x, y, z), room, column)
 }
@@ -85,8 +86,11 @@ pub extern "C" fn shade_judge_lab(
     room: &mut [u8],
     column: usize,
 ) -> u32
-    ensures { λ n. ⌜ Gives (judgeCall (now (station .entry)) (Lab lightness a b) (now (room .entry)) column) n (now (room .exit)) ⌝ }
-    ensures run { λ n. ⌜ ((cs : List Call) → now (station .entry) ≡ sliceAfter zeros cs → Gives (judgeCall (fresh (lastAccepted (loads cs))) (Lab lightness a b) (now (room .entry)) column) n (now (room .exit))) ⌝ }
+    ensures { λ n.
+        ⌜ Gives (judgeCall (now (station .entry)) (Lab lightness a b) (now (room .entry)) column) n
+        (now (room .exit)) ⌝ }
+    ensures run { λ n.
+        ⌜ AsFresh (now (station .entry)) (Lab lightness a b) (now (room .entry)) column n (now (room .exit)) ⌝ }
 {
     judge_call(station, Reading::Lab(lightness, a, b), room, column)
 }

@@ -4,7 +4,8 @@ use libc::STDOUT_FILENO;
 use printing::printed;
 
 fn main() {
-    // One byte more than a ticket may have shows a text that is too long, without reading the rest of it (`printed-start` of `printing`).
+    // One byte more than a ticket may have shows a text that is too long, without reading the rest of it
+    // (`printed-start` of `printing`).
     let mut text = [0u8; 4097];
     let n = io::read_full(STDIN_FILENO, &mut text);
     // The longest report.

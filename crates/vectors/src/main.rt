@@ -1,4 +1,5 @@
-// Outside vectors, run and compared: Table 2 of BS 6923, the example of document 002, and the five statements of BS 6923's Figure 1.
+// Outside vectors, run and compared: Table 2 of BS 6923, the example of document 002, and the five statements of its
+// Figure 1.
 mod say;
 mod tables;
 

@@ -61,7 +61,8 @@ module _ (Q : ℕ → Type 0) (zero : Q 0) where
   read-keeps five six eight W.Unknown r = zero
 
   pub load-each :
-      Q 1 → Q 2 → Q 3 → Q 4 → Q 5 → Q 6 → Q 8 → (formula white l c tolerance : ℕ) (r : Reading) → Each Q (loadFaults formula white l c tolerance r)
+      Q 1 → Q 2 → Q 3 → Q 4 → Q 5 → Q 6 → Q 8 → (formula white l c tolerance : ℕ) (r : Reading) →
+      Each Q (loadFaults formula white l c tolerance r)
   unfolding loadFaults
   load-each one two three four five six eight formula white l c tolerance r =
       more (there-keeps (noFormula (formulaNumbered formula)) one)
@@ -79,4 +80,5 @@ module _ (Q : ℕ → Type 0) (zero : Q 0) where
   ticket-each three four six seven eight (Right t) =
       let by = t .settings in
       more (written-keeps six eight (by .white) (t .test))
-      (more (written-keeps six eight (by .white) (t .reference)) (range-each three four (by .l) (by .c) (by .tolerance)))
+      (more (written-keeps six eight (by .white) (t .reference))
+      (range-each three four (by .l) (by .c) (by .tolerance)))

@@ -1,5 +1,6 @@
--- THE THEOREM ON RUNS OF CALLS: after any calls the station's slice is that of one that was freshly started and given the last accepted standard alone,
--- or zeros if none was accepted; so the next call answers and writes what that station's would. Assumes nothing.
+-- THE THEOREM ON RUNS OF CALLS: after any calls the station's slice is that of one that was freshly started and given
+-- the last accepted standard alone, or zeros if none was accepted; so the next call answers and writes what that
+-- station's would. Assumes nothing.
 use mathlib.Core.Path.{_≡_, refl, ap, _∙_, subst}
 use mathlib.Core.List.{List, [], _∷_}
 use Prim.Native.Nat.{ℕ}
@@ -32,7 +33,8 @@ run-slice cs = slice-left zeros cs ∙ run-left (loads cs)
 loads-valid : (cs : List Call) → AllValid (loads cs)
 unfolding loads
 loads-valid [] = none
-loads-valid (load formula white l c tolerance r ∷ cs) = more (loaded-valid (settingsOf formula white l c tolerance) r) (loads-valid cs)
+loads-valid (load formula white l c tolerance r ∷ cs) =
+    more (loaded-valid (settingsOf formula white l c tolerance) r) (loads-valid cs)
 loads-valid (judge r room column ∷ cs) = loads-valid cs
 loads-valid (ticket text room column ∷ cs) = loads-valid cs
 
@@ -43,8 +45,10 @@ run-holds-last cs = ap decode (slice-left zeros cs) ∙ run-holds (loads cs) (lo
 
 pub run-load :
     (cs : List Call) (formula white l c tolerance : ℕ) (r : Reading) →
-    loadCall (sliceAfter zeros cs) formula white l c tolerance r ≡ loadCall (fresh (lastAccepted (loads cs))) formula white l c tolerance r
-run-load cs formula white l c tolerance r = ap (λ (xs : List ℕ). loadCall xs formula white l c tolerance r) (run-slice cs)
+    loadCall (sliceAfter zeros cs) formula white l c tolerance r
+    ≡ loadCall (fresh (lastAccepted (loads cs))) formula white l c tolerance r
+run-load cs formula white l c tolerance r =
+    ap (λ (xs : List ℕ). loadCall xs formula white l c tolerance r) (run-slice cs)
 
 pub run-judge :
     (cs : List Call) (r : Reading) (room : List ℕ) (column : ℕ) →
@@ -52,13 +56,16 @@ pub run-judge :
 run-judge cs r room column = ap (λ (xs : List ℕ). judgeCall xs r room column) (run-slice cs)
 
 -- where none was accepted that is 9, and the room as it was
-pub zeros-judge : (r : Reading) (room : List ℕ) (column : ℕ) → judgeCall zeros r room column ≡ record { number = 9; bytes = room }
+pub zeros-judge :
+    (r : Reading) (room : List ℕ) (column : ℕ) → judgeCall zeros r room column ≡ record { number = 9; bytes = room }
 unfolding judgeCall judgedBy judgeFaults refusal numberAt firstOf
 zeros-judge r room column = rw zeros-empty
 
 -- the same for the code of `judge_call`, whose contract cites it
 pub judged-after :
-    (xs : List ℕ) (r : Reading) (room : List ℕ) (column : ℕ) {n : ℕ} {ys : List ℕ} → Gives (judgeCall xs r room column) n ys →
+    (xs : List ℕ) (r : Reading) (room : List ℕ) (column : ℕ) {n : ℕ} {ys : List ℕ} →
+    Gives (judgeCall xs r room column) n ys →
     AsFresh xs r room column n ys
 judged-after xs r room column {n} {ys} g cs e =
-    subst (λ (a : Answer). Gives a n ys) (ap (λ (l : List ℕ). judgeCall l r room column) e ∙ run-judge cs r room column) g
+    subst (λ (a : Answer). Gives a n ys) (ap (λ (l : List ℕ). judgeCall l r room column) e ∙ run-judge cs r room column)
+    g

@@ -11,7 +11,8 @@ refused c =
     let at-number = at-line .before .before in
     let at-outcome = at-number .before .before in
     prints-as
-    (refusal-printed _ (at-outcome .before .parse .ensures) (at-outcome .ticket-outcome .ensures) (at-number .number .given .1) (at-line .line-of .ensures))
+    (refusal-printed _ (at-outcome .before .parse .ensures) (at-outcome .ticket-outcome .ensures)
+    (at-number .number .given .1) (at-line .line-of .ensures))
     (at-printing .print-refusal .ensures)
 
 judged : tie.Need-returns-2
@@ -21,7 +22,8 @@ judged c =
     let at-judgement = told .before in
     let at-outcome = at-judgement .before .before in
     prints-as
-    (report-printed _ (at-outcome .before .parse .ensures) (at-outcome .ticket-outcome .ensures) (at-judgement .j .given .1))
+    (report-printed _ (at-outcome .before .parse .ensures) (at-outcome .ticket-outcome .ensures)
+    (at-judgement .j .given .1))
     (at-printing .print-report .ensures)
 
 pub printed-spec : {M : Type 1} → statement M

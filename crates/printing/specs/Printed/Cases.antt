@@ -1,4 +1,5 @@
--- Texts with what is printed for them, by computing: 01's whole case, and refusals. No proof cites this. Assumes nothing.
+-- Texts with what is printed for them, by computing: the whole case of docs/SCOPE.md 11.1, and refusals. No proof cites
+-- this. Assumes nothing.
 use Prim.Native.String.{String}
 use mathlib.Core.Path.{_≡_, refl}
 use mathlib.Core.List.{List, [], _∷_, _++_}
@@ -9,7 +10,8 @@ use Rattle.reading.specs.Reading.{decimalUnits}
 use Rattle.colour.specs.Conversion.{atPlaces}
 use Rattle.colour.specs.Placed.{take, placeWritten}
 use Rattle.sheet.specs.Settings.{within}
-use Rattle.sheet.specs.Sheet.{chroma, cross, dot, sameHue, hueChange, semiAxisL, semiAxisC, component, componentH, total, hueSemiAxis}
+use Rattle.sheet.specs.Sheet.{chroma, cross, dot, sameHue, hueChange, semiAxisL, semiAxisC, component, componentH}
+use Rattle.sheet.specs.Sheet.{total, hueSemiAxis}
 use Rattle.sheet.specs.Sheet.{semiAxesCMC, semiAxes, shift, differences, sheet, compared, verdictOn, comparison}
 use Rattle.names.specs.Names.{achromatic}
 use Rattle.text.specs.Ascii.{ascii}
@@ -51,7 +53,8 @@ pub record PrintedCases : Type 0 where
       ∷ ascii "verdict=pass\n"
       ∷ [])
   pub empty : printedFor "" ≡ ascii "refused=7 line=1\n"
-  pub third-line : from3 "l=1,000\nc=1.000\ntol=1.000\nspace=LAB\nref=50 0 0\ntest=51 0 0\n" ≡ ascii "refused=7 line=3\n"
+  pub third-line :
+      from3 "l=1,000\nc=1.000\ntol=1.000\nspace=LAB\nref=50 0 0\ntest=51 0 0\n" ≡ ascii "refused=7 line=3\n"
   pub factor : from3 "l=0.499\nc=1\ntol=1\nspace=LAB\nref=50 0 0\ntest=51 0 0\n" ≡ ascii "refused=3 line=0\n"
   pub out-of-range : from3 "tol=1\nspace=LAB\nref=50 0 0\ntest=121 0 0\n" ≡ ascii "refused=6 line=0\n"
 
@@ -59,9 +62,11 @@ pub printed-cases : PrintedCases
 unfolding rootOf _÷_ decimalUnits atPlaces take placeWritten within
     chroma cross dot sameHue hueChange semiAxisL semiAxisC component componentH total hueSemiAxis
     semiAxesCMC semiAxes shift differences sheet compared verdictOn comparison achromatic
-    line shown lastDigits widthIn decimalText indexOf before after startsWith sameBytes numeral digitsOf fractionOf decimalOf signedOf
+    line shown lastDigits widthIn decimalText indexOf before after startsWith sameBytes numeral digitsOf fractionOf
+    decimalOf signedOf
     named inSpace readingOf due nothingMore
     testLine refLine spaceLine tolLine cLine factorLines whiteLine ticketOf
     settingLines figureLines wordLines reportText
-    numberAt firstOf refusal rangeFaults acceptFaults acceptance judgementOf outcome ticketOutcome refusalLine printedText
+    numberAt firstOf refusal rangeFaults acceptFaults acceptance judgementOf outcome ticketOutcome refusalLine
+    printedText
 printed-cases = record { whole-case = refl; empty = refl; third-line = refl; factor = refl; out-of-range = refl }

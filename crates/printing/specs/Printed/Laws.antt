@@ -31,7 +31,8 @@ use Rattle.printing.specs.Printed.{refusalLine, lineOf, printedText, fit
 module _ (text : List ℕ) where
   -- by what it is parsed as, and what that comes to
   module _ {p : Parsed} {o : Outcome} (ep : p ≡ ticketOf text) (eo : o ≡ ticketOutcome p) where
-    pub refusal-printed : {number line : ℕ} → o ≡ Refused number → line ≡ lineOf p → refusalLine number line ≡ printedText text
+    pub refusal-printed :
+        {number line : ℕ} → o ≡ Refused number → line ≡ lineOf p → refusalLine number line ≡ printedText text
     unfolding printedText
     refusal-printed h l = sym (rw (← ep, ← eo, h, ← l))
 
@@ -44,7 +45,9 @@ module _ (text : List ℕ) where
   unfolding ticketOutcome
   printed-wrong e = sym (refusal-printed (sym e) refl refl refl)
 
-  pub printed-refused : {t : Ticket} {n : ℕ} → ticketOf text ≡ Right t → ticketOutcome (Right t) ≡ Refused n → printedText text ≡ refusalLine n 0
+  pub printed-refused :
+      {t : Ticket} {n : ℕ} → ticketOf text ≡ Right t → ticketOutcome (Right t) ≡ Refused n →
+      printedText text ≡ refusalLine n 0
   printed-refused e h = sym (refusal-printed (sym e) refl h refl)
 
   printed-long : 4096 < length text → printedText text ≡ refusalLine 7 0
@@ -55,12 +58,15 @@ pub printed-start : (text : List ℕ) → printedText (take 4097 text) ≡ print
 printed-start text =
     ⊎-elim
     (λ (h : length text - 4096 ≡ 0). ap printedText (take-all 4097 text (omega arith)))
-    (λ (h : 0 < length text - 4096). printed-long (take 4097 text) (omega (arith, length-take 4097 text)) ∙ sym (printed-long text (omega arith)))
+    (λ (h : 0 < length text - 4096). printed-long (take 4097 text) (omega (arith, length-take 4097 text))
+    ∙ sym (printed-long text (omega arith)))
     (eq-zero-or-pos (length text - 4096))
 
 -- ---- the line of a refusal
 
-pub refusal-length : (number line : ℕ) → length (refusalLine number line) ≡ 8 + length (wholeText number) + 6 + length (wholeText line) + 1
+pub refusal-length :
+    (number line : ℕ) → length (refusalLine number line)
+    ≡ 8 + length (wholeText number) + 6 + length (wholeText line) + 1
 unfolding refusalLine
 refusal-length number line = simp length-append (omega arith)
 
@@ -69,8 +75,10 @@ refusal-length number line = simp length-append (omega arith)
 pub prints-as : {before s t after : List ℕ} {n : ℕ} → s ≡ t → Prints before s n after → Prints before t n after
 prints-as {before} {s} {t} {after} {n} e p = subst (λ (l : List ℕ). Prints before l n after) e p
 
-pub prints-put : {before s after : List ℕ} {n : ℕ} → length s ≤ length before → Puts before 0 s n after → Prints before s n after
-prints-put {s = s} h p = record { count = p .end ∙ zero-add (length s) ∙ rw (le-leb _ _ h); bytes = p .bytes ∙ rw (le-leb _ _ h) }
+pub prints-put :
+    {before s after : List ℕ} {n : ℕ} → length s ≤ length before → Puts before 0 s n after → Prints before s n after
+prints-put {s = s} h p =
+    record { count = p .end ∙ zero-add (length s) ∙ rw (le-leb _ _ h); bytes = p .bytes ∙ rw (le-leb _ _ h) }
 
 pub prints-nothing : (before s : List ℕ) → length before < length s → Prints before s 0 before
 prints-nothing before s h = record { count = rw (lt-leb _ _ h); bytes = rw (lt-leb _ _ h) }

@@ -12,7 +12,8 @@ part-within c = prints-le (c .before .printed .ensures)
 part-length : tie.Need-slice-aggregate-write-all
 part-length c =
     let at-printed = c .before .before in
-    sym (length-take-le (at-printed .printed .result) (at-printed .printed .last .1 .0) (prints-le (at-printed .printed .ensures)))
+    sym (length-take-le (at-printed .printed .result) (at-printed .printed .last .1 .0)
+    (prints-le (at-printed .printed .ensures)))
 
 pub main-spec : {M : Type 1} → statement M
 main-spec =

@@ -1,4 +1,5 @@
--- `figures::load_figures` meets its contract: the answer of what the load comes to, which is valid where it is accepted. Assumes nothing.
+-- `figures::load_figures` meets its contract: the answer of what the load comes to, which is valid where it is
+-- accepted. Assumes nothing.
 use mathlib.Core.Path.{sym, ap, _∙_}
 use borrow.Author.Needs.{needs}
 use Rattle.standard.specs.Figures.{referenceAnswer}

@@ -1,4 +1,5 @@
--- `lent::report_on` meets its contract: a refusal leaves the room, and a judgement is written as the report of it. Assumes nothing.
+-- `lent::report_on` meets its contract: a refusal leaves the room, and a judgement is written as the report of it.
+-- Assumes nothing.
 use borrow.Author.Needs.{needs}
 use Rattle.calls.specs.Calls.Laws.{reported-refused, reported-judged}
 use Rattle.calls.proofs.lent.report_on.Statement.{statement}
@@ -12,7 +13,8 @@ judged c =
     let at-writing = c .before .before in
     let known = at-writing .before .before in
     let at-judgement = known .before in
-    reported-judged _ _ (at-judgement .o2 .given .1) (at-writing .write-report .ensures .number-is) (at-writing .write-report .ensures .room-is)
+    reported-judged _ _ (at-judgement .o2 .given .1) (at-writing .write-report .ensures .number-is)
+    (at-writing .write-report .ensures .room-is)
 
 pub report-on-spec : {M : Type 1} → statement M
 report-on-spec =

@@ -8,7 +8,8 @@ returns : tie.Need-returns
 returns c =
     let at-report = c .before .before in
     let at-outcome = at-report .before .before in
-    ticket-call-gives _ _ _ (at-outcome .before .parse .ensures) (at-outcome .ticket-outcome .ensures) (at-report .report-on .ensures)
+    ticket-call-gives _ _ _ (at-outcome .before .parse .ensures) (at-outcome .ticket-outcome .ensures)
+    (at-report .report-on .ensures)
 
 pub ticket-call-spec : {M : Type 1} → statement M
 ticket-call-spec =

@@ -1,7 +1,8 @@
--- `outcome::judge_outcome` meets its contract: one law of `Outcome/Laws.antt` for each way out; what a slice holds is valid. Assumes nothing.
+-- `outcome::judge_outcome` meets its contract: one law of `Outcome/Judge.antt` for each way out; what a slice holds is
+-- valid. Assumes nothing.
 use mathlib.Core.Path.{sym, _∙_}
 use borrow.Author.Needs.{needs}
-use Rattle.calls.specs.Outcome.Laws.{judge-empty, judge-held, held-judgeable}
+use Rattle.calls.specs.Outcome.Judge.{judge-empty, judge-held, held-judgeable}
 use Rattle.calls.proofs.outcome.judge_outcome.Statement.{statement}
 use Rattle.calls.proofs.outcome.judge_outcome.Tie as tie
 
@@ -22,7 +23,8 @@ empty c = let at-slice = c .before .before in judge-empty _ _ (at-slice .read .e
 judged : tie.Need-returns-2
 judged c =
     let at-reading = c .before in
-    judge-held _ _ (at-read at-reading .read .ensures) (held at-reading .s .given .1) (at-reading .place-reading .ensures) (c .judge .ensures)
+    judge-held _ _ (at-read at-reading .read .ensures) (held at-reading .s .given .1)
+    (at-reading .place-reading .ensures) (c .judge .ensures)
 
 pub judge-outcome-spec : {M : Type 1} → statement M
 judge-outcome-spec =

@@ -15,7 +15,8 @@ tried c =
     let at-reading = c .before in
     let named = at-reading .before .before in
     let at-settings = named .before .before in
-    load-tried _ _ (at-settings .settings-of .ensures) (named .s .given .1) (at-reading .place-reading .ensures) (c .accept .ensures)
+    load-tried _ _ (at-settings .settings-of .ensures) (named .s .given .1) (at-reading .place-reading .ensures)
+    (c .accept .ensures)
 
 pub load-outcome-spec : {M : Type 1} → statement M
 load-outcome-spec =

@@ -1,6 +1,7 @@
--- `outcome::right_outcome` meets its contract: one law of `Outcome/Laws.antt` for each way out; what was accepted is valid. Assumes nothing.
+-- `outcome::right_outcome` meets its contract: one law of `Outcome/Ticket.antt` for each way out; what was accepted is
+-- valid. Assumes nothing.
 use borrow.Author.Needs.{needs}
-use Rattle.calls.specs.Outcome.Laws.{ticket-unaccepted, ticket-judged, ticket-judgeable}
+use Rattle.calls.specs.Outcome.Ticket.{ticket-unaccepted, ticket-judged, ticket-judgeable}
 use Rattle.calls.proofs.outcome.right_outcome.Statement.{statement}
 use Rattle.calls.proofs.outcome.right_outcome.Tie as tie
 
@@ -20,13 +21,14 @@ module _ (c : tie.After-place-written2) where
 
 judgeable : tie.Need-judge-requires
 judgeable c κs =
-    ticket-judgeable _ (at-load c .before .place-written .ensures) (at-load c .accept .ensures) (at-standard c .s .given .1) (c .place-written2 .ensures)
+    ticket-judgeable _ (at-load c .before .place-written .ensures) (at-load c .accept .ensures)
+    (at-standard c .s .given .1) (c .place-written2 .ensures)
 
 judged : tie.Need-returns-2
 judged c =
     let at-test = c .before in
-    ticket-judged _ (at-load at-test .before .place-written .ensures) (at-load at-test .accept .ensures) (at-standard at-test .s .given .1)
-    (at-test .place-written2 .ensures) (c .judge .ensures)
+    ticket-judged _ (at-load at-test .before .place-written .ensures) (at-load at-test .accept .ensures)
+    (at-standard at-test .s .given .1) (at-test .place-written2 .ensures) (c .judge .ensures)
 
 pub right-outcome-spec : {M : Type 1} → statement M
 right-outcome-spec =

@@ -6,7 +6,8 @@ use Rattle.calls.proofs.outcome.ticket_outcome.Statement.{statement}
 use Rattle.calls.proofs.outcome.ticket_outcome.Tie as tie
 
 right : tie.Need-returns
-right c = let at-ticket = c .before .before in c .right-outcome .ensures ∙ sym (ap ticketOutcome (at-ticket .p .given .1))
+right c =
+    let at-ticket = c .before .before in c .right-outcome .ensures ∙ sym (ap ticketOutcome (at-ticket .p .given .1))
 
 wrong : tie.Need-returns-2
 unfolding ticketOutcome

@@ -1,6 +1,7 @@
 -- Five pieces, one after the other. Assumes nothing.
 use borrow.Author.Needs.{needs}
-use Rattle.text.specs.Put.Laws.{RoomForAll, room-for-all, room-first, room-second, room-third, room-fourth, room-rest, puts-more, puts-four, puts-joined}
+use Rattle.text.specs.Put.Laws.{RoomForAll, room-for-all, room-first, room-second, room-third, room-fourth, room-rest}
+use Rattle.text.specs.Put.Laws.{puts-more, puts-four, puts-joined}
 use Rattle.printing.specs.Printed.{refusalPieces, refusalLine}
 use Rattle.printing.proofs.refusal.put_refusal.Statement.{statement}
 use Rattle.printing.proofs.refusal.put_refusal.Tie as tie
@@ -29,7 +30,8 @@ line-requires c κs =
     let key = c .before .before .before in
     let number = key .before .before .before .before .before in
     let refused = number .before .before .before .before in
-    room-fourth (row (refused .before .before .before .before)) (refused .put .ensures) (number .put-whole .ensures) (key .put2 .ensures)
+    room-fourth (row (refused .before .before .before .before)) (refused .put .ensures) (number .put-whole .ensures)
+    (key .put2 .ensures)
 
 end-requires : tie.Need-put-requires-3
 end-requires c κs =

@@ -13,7 +13,8 @@ placed c =
     let at-numbered = at-white .before .before in
     let args = at-numbered .before .args in
     numbered-placed (args .r) (now (args .out))
-    (at-numbered .numbered .ensures) (at-white .w .given .1) (at-place .place-reading .ensures) (at-store .store-place .ensures)
+    (at-numbered .numbered .ensures) (at-white .w .given .1) (at-place .place-reading .ensures)
+    (at-store .store-place .ensures)
 
 unknown : tie.Need-returns-2
 unknown c =

@@ -1,4 +1,5 @@
--- `store_units` meets its contract: each arm is a clause of `unitsAnswer`, and nothing is stored where `out` has no place. Assumes nothing.
+-- `store_units` meets its contract: each arm is a clause of `unitsAnswer`, and nothing is stored where `out` has no
+-- place. Assumes nothing.
 use borrow.Author.Needs.{needs}
 use mathlib.Core.Path.{_≡_}
 use mir.Syntax.{w64}

@@ -1,15 +1,14 @@
--- What callers use of what a judgement and a ticket come to: each way out; each number is that of the first fault; and whatever is judged was judged by a
--- valid standard, of a test specimen on the grid. Assumes nothing.
+-- What callers use of what a ticket comes to: each way out; its number is that of its first fault; and whatever is
+-- judged was judged by its own valid standard, of a test specimen on the grid. Assumes nothing.
 use mathlib.Core.Path.{_≡_, refl, sym, ap, _∙_}
 use mathlib.Core.List.{List, [], _∷_, map}
 use mathlib.Core.Logic.{_⊎_, inl, inr}
 use Prim.Native.Nat.{ℕ}
 use native.Mathlib.Omega.{arith}
-use Rattle.colour.specs.Placed.{place, placeWritten, refusalOf}
-use Rattle.colour.specs.Placed.Laws.{place-on-grid, written-on-grid, written-refused}
+use Rattle.colour.specs.Placed.{placeWritten, refusalOf}
+use Rattle.colour.specs.Placed.Laws.{written-on-grid, written-refused}
 use Rattle.colour.specs.declared.placed.Placed.{Placed}
 use Rattle.colour.specs.declared.placed.Placed.the-variants as P
-use Rattle.colour.specs.declared.placed.Reading.{Reading}
 use Rattle.colour.specs.declared.placed.Written.{Written}
 use Rattle.colour.specs.declared.white.White.{White}
 use Rattle.ticket.specs.declared.lines.Ticket.{Ticket}
@@ -28,90 +27,16 @@ use Rattle.standard.specs.declared.accept.Acceptance.the-variants as A
 use Rattle.standard.specs.declared.judge.Judgement.{Judgement}
 use Rattle.standard.specs.declared.judge.Outcome.{Outcome}
 use Rattle.standard.specs.declared.judge.Outcome.the-variants.{Refused, Judged}
-use Rattle.station.specs.Record.{decode}
-use Rattle.station.specs.Record.Back.{decode-stands}
-use Rattle.station.specs.declared.Station.{Station}
-use Rattle.station.specs.declared.Station.the-variants.{Empty, Holds}
-use Rattle.calls.specs.Outcome.Load.{placed-some}
-use Rattle.calls.specs.Outcome.{judgedBy, judgeFaults, judgedAfter, ticketOutcome, ticketFaults}
+use Rattle.calls.specs.Outcome.Judge.{outcome-some}
+use Rattle.calls.specs.Outcome.{judgedAfter, ticketOutcome, ticketFaults}
 
--- ---- a reading that is refused has a number
-
+-- a written reading that is refused has a number
 written-some : (w : White) (r : Written) {n : ℕ} → placeWritten w r ≡ P.Refused n → n ≡ 0 → ⊥
 written-some w r {n} e z = go (written-refused w r e)
   where
     go : (n ≡ 6) ⊎ (n ≡ 8) → ⊥
     go (inl h) = omega arith
     go (inr h) = omega arith
-
-outcome-some :
-    (s : Standard) (p : Placed) → ((n : ℕ) → p ≡ P.Refused n → n ≡ 0 → ⊥) → {n : ℕ} → outcome s p ≡ Refused n → n ≡ 0 → ⊥
-unfolding outcome
-outcome-some s (P.At T) some e z = let no : _≡_ {A = ℕ} 0 1 = cc in omega arith
-outcome-some s (P.Refused m) some {n} e z = let is : m ≡ n = cc in some m refl (is ∙ z)
-
--- ---- a judgement
-
--- each way out
-module _ (station : Station) (r : Reading) {x : Station} (e : x ≡ station) where
-  pub judge-empty : x ≡ Empty → Refused 9 ≡ judgedBy station r
-  unfolding judgedBy
-  judge-empty h = rw (← e, h)
-
-  pub judge-held :
-      {s : Standard} {p : Placed} {o : Outcome} → x ≡ Holds s → p ≡ place (s .settings .white) r → o ≡ outcome s p → o ≡ judgedBy station r
-  unfolding judgedBy
-  judge-held h hp ho = rw (← e, h, ho, hp)
-
-pub held-judgeable :
-    (xs : List ℕ) (r : Reading) {s : Standard} {p : Placed} → decode xs ≡ Holds s → p ≡ place (s .settings .white) r → Judgeable s p
-held-judgeable xs r e hp = record { standard = decode-stands xs e .valid; test = λ c h. place-on-grid _ r c (sym hp ∙ h) }
-
-pub judge-number : (station : Station) (r : Reading) → numberOf (judgedBy station r) ≡ refusal (judgeFaults station r)
-unfolding judgedBy judgeFaults refusal numberAt firstOf
-judge-number Empty r = refl
-judge-number (Holds s) r = outcome-number s _ ∙ sym (first-zero _)
-
-pub judge-room : (station : Station) (r : Reading) → numberAt (judgeFaults station r) atRoom ≡ 0
-unfolding judgeFaults numberAt
-judge-room Empty r = refl
-judge-room (Holds s) r = refl
-
--- a refused judgement has a number
-pub judge-some : (station : Station) (r : Reading) {n : ℕ} → judgedBy station r ≡ Refused n → n ≡ 0 → ⊥
-unfolding judgedBy
-judge-some Empty r {n} e z = let is : _≡_ {A = ℕ} 9 n = cc in omega arith
-judge-some (Holds s) r e z = outcome-some s _ (λ m h. placed-some _ r h) e z
-
--- j is said by what a slice holds, of the colour that was read
-pub record SaidOf (xs : List ℕ) (r : Reading) (j : Judgement) : Type 0 where
-  pub held : decode xs ≡ Holds (j .standard)
-  pub read : place (j .standard .settings .white) r ≡ P.At (j .test)
-  pub is : j ≡ judgementOf (j .standard) (j .test)
-  pub asked : Specimen (j .standard) (j .test)
-
-holds-said :
-    (xs : List ℕ) (s : Standard) (r : Reading) {j : Judgement} → decode xs ≡ Holds s → Says s (place (s .settings .white) r) j → SaidOf xs r j
-holds-said xs s r {j} held says =
-    let same = says .standard in
-    let now : decode xs ≡ Holds (j .standard) = held ∙ ap Holds same in
-    let read : place (j .standard .settings .white) r ≡ P.At (j .test) = ap (λ (t : Standard). place (t .settings .white) r) (sym same) ∙ says .placed in
-    record {
-      held = now;
-      read = read;
-      is = says .is;
-      asked = record { standard = decode-stands xs now .valid; test = place-on-grid _ r (j .test) read };
-    }
-
-pub judged-said : (xs : List ℕ) (r : Reading) {j : Judgement} → judgedBy (decode xs) r ≡ Judged j → SaidOf xs r j
-unfolding judgedBy
-judged-said xs r {j} = go (decode xs) refl
-  where
-    go : (station : Station) → decode xs ≡ station → judgedBy station r ≡ Judged j → SaidOf xs r j
-    go Empty e h = let no : _≡_ {A = ℕ} 0 1 = cc in absurd (omega arith)
-    go (Holds s) e h = holds-said xs s r e (judged-says s (place (s .settings .white) r) h)
-
--- ---- a ticket
 
 module _ (t : Ticket) where
   abbrev reference : Placed
@@ -141,21 +66,28 @@ module _ (t : Ticket) where
             test = λ c g. written-on-grid _ (t .test) c (sym hq ∙ g);
           }
 
+  -- ---- its number
+
   -- the test specimen's fault comes after those of the load
-  right-refusal : refusal (ticketFaults (Right t)) ≡ first (refusal (acceptFaults (t .settings) reference)) (refusalOf test)
+  right-refusal :
+      refusal (ticketFaults (Right t)) ≡ first (refusal (acceptFaults (t .settings) reference)) (refusalOf test)
   unfolding ticketFaults refusal numberAt firstOf acceptFaults rangeFaults
   right-refusal =
-      let fs : List ℕ = map (numberAt (acceptFaults (t .settings) reference)) (atL ∷ atC ∷ atTolerance ∷ atReference ∷ []) in
+      let fs : List ℕ =
+      map (numberAt (acceptFaults (t .settings) reference)) (atL ∷ atC ∷ atTolerance ∷ atReference ∷ []) in
       firstOf-append fs (refusalOf test ∷ []) ∙ ap (first (firstOf fs)) (first-zero (refusalOf test))
 
-  after-number : (a : Acceptance) → ((n : ℕ) → a ≡ A.Refused n → n ≡ 0 → ⊥) → numberOf (judgedAfter a test) ≡ first (Acceptance.numberOf a) (refusalOf test)
+  after-number :
+      (a : Acceptance) → ((n : ℕ) → a ≡ A.Refused n → n ≡ 0 → ⊥) →
+      numberOf (judgedAfter a test) ≡ first (Acceptance.numberOf a) (refusalOf test)
   after-number (A.Refused n) some = sym (first-some (refusalOf test) (some n refl))
   after-number (A.Accepted s) some = outcome-number s test
 
   right-number : numberOf (ticketOutcome (Right t)) ≡ refusal (ticketFaults (Right t))
   unfolding ticketOutcome
   right-number =
-      after-number (acceptance (t .settings) reference) (λ n e. refused-some (t .settings) reference (λ m h. written-some _ _ h) e)
+      after-number (acceptance (t .settings) reference)
+      (λ n e. refused-some (t .settings) reference (λ m h. written-some _ _ h) e)
       ∙ ap (λ (n : ℕ). first n (refusalOf test)) (accept-number (t .settings) reference) ∙ sym right-refusal
 
 pub ticket-number : (p : Parsed) → numberOf (ticketOutcome p) ≡ refusal (ticketFaults p)
@@ -170,7 +102,9 @@ ticket-some (Wrong line) {n} e z = let is : _≡_ {A = ℕ} 7 n = cc in omega ar
 ticket-some (Right t) {n} e z = go (acceptance (t .settings) (reference t)) refl e
   where
     go : (a : Acceptance) → acceptance (t .settings) (reference t) ≡ a → judgedAfter a (test t) ≡ Refused n → ⊥
-    go (A.Refused m) h g = let is : m ≡ n = cc in refused-some (t .settings) (reference t) (λ k q. written-some _ _ q) h (is ∙ z)
+    go (A.Refused m) h g =
+        let is : m ≡ n = cc in
+        refused-some (t .settings) (reference t) (λ k q. written-some _ _ q) h (is ∙ z)
     go (A.Accepted s) h g = outcome-some s (test t) (λ k q. written-some _ _ q) g z
 
 pub ticket-room : (p : Parsed) → numberAt (ticketFaults p) atRoom ≡ 0
@@ -178,18 +112,25 @@ unfolding ticketFaults numberAt acceptFaults rangeFaults
 ticket-room (Wrong line) = refl
 ticket-room (Right t) = refl
 
+-- ---- what is judged
+
 -- j is said of a ticket: by its own standard, of the colour that its test line says
 pub record SaidIn (p : Parsed) (j : Judgement) : Type 0 where
   pub ticket : Ticket
   pub right : p ≡ Right ticket
-  pub accepted : acceptance (ticket .settings) (placeWritten (ticket .settings .white) (ticket .reference)) ≡ A.Accepted (j .standard)
+  pub accepted :
+      acceptance (ticket .settings) (placeWritten (ticket .settings .white) (ticket .reference))
+      ≡ A.Accepted (j .standard)
   pub read : placeWritten (ticket .settings .white) (ticket .test) ≡ P.At (j .test)
   pub is : j ≡ judgementOf (j .standard) (j .test)
   pub asked : Specimen (j .standard) (j .test)
 
-right-said : (t : Ticket) (s : Standard) {j : Judgement} → acceptance (t .settings) (reference t) ≡ A.Accepted s → Says s (test t) j → SaidIn (Right t) j
+right-said :
+    (t : Ticket) (s : Standard) {j : Judgement} → acceptance (t .settings) (reference t) ≡ A.Accepted s →
+    Says s (test t) j → SaidIn (Right t) j
 right-said t s {j} e says =
-    let accepted : acceptance (t .settings) (reference t) ≡ A.Accepted (j .standard) = e ∙ ap A.Accepted (says .standard) in
+    let accepted : acceptance (t .settings) (reference t) ≡ A.Accepted (j .standard) =
+    e ∙ ap A.Accepted (says .standard) in
     record {
       ticket = t;
       right = refl;
@@ -197,7 +138,8 @@ right-said t s {j} e says =
       read = says .placed;
       is = says .is;
       asked = record {
-        standard = accepted-valid (t .settings) (reference t) (written-on-grid _ (t .reference)) (j .standard) accepted;
+        standard =
+            accepted-valid (t .settings) (reference t) (written-on-grid _ (t .reference)) (j .standard) accepted;
         test = written-on-grid _ (t .test) (j .test) (says .placed);
       };
     }
@@ -207,6 +149,7 @@ unfolding ticketOutcome
 ticket-said (Wrong line) e = let no : _≡_ {A = ℕ} 0 1 = cc in absurd (omega arith)
 ticket-said (Right t) {j} e = go (acceptance (t .settings) (reference t)) refl e
   where
-    go : (a : Acceptance) → acceptance (t .settings) (reference t) ≡ a → judgedAfter a (test t) ≡ Judged j → SaidIn (Right t) j
+    go : (a : Acceptance) → acceptance (t .settings) (reference t) ≡ a → judgedAfter a (test t) ≡ Judged j →
+        SaidIn (Right t) j
     go (A.Refused n) e h = let no : _≡_ {A = ℕ} 0 1 = cc in absurd (omega arith)
     go (A.Accepted s) e h = right-said t s e (judged-says s (test t) h)
