@@ -1,6 +1,6 @@
--- NO REPORT IS LONGER THAN 161 BYTES, and so 161 bytes from the column on are enough room for every call that writes one: whatever the station's slice
--- or the ticket holds, and whatever is read. `Longest/Reached.antt` has a report of just as many, `Longest/Printed.antt` what the program prints.
--- Assumes nothing.
+-- NO REPORT IS LONGER THAN 161 BYTES, and so 161 bytes from the column on are enough room for every call that writes
+-- one: whatever the station's slice or the ticket holds, and whatever is read. `Longest/Reached.antt` has a report of
+-- just as many, `Longest/Printed.antt` what the program prints. Assumes nothing.
 use mathlib.Core.Path.{_≡_, refl, sym, subst}
 use mathlib.Core.List.{List, _∷_}
 use Prim.Native.Nat.{ℕ, _+_, _≤_, _<_}
@@ -28,10 +28,12 @@ use Rattle.standard.specs.declared.judge.Outcome.the-variants.{Refused, Judged}
 use Rattle.station.specs.Record.{decode}
 use Rattle.calls.specs.Outcome.{judgedBy, ticketOutcome}
 use Rattle.calls.specs.Outcome.Each.{judge-each, ticket-each}
-use Rattle.calls.specs.Outcome.Laws.{judged-said, ticket-said}
+use Rattle.calls.specs.Outcome.Judge.{judged-said}
+use Rattle.calls.specs.Outcome.Ticket.{ticket-said}
 use Rattle.calls.specs.Calls.{Answer, roomFault, judgeCall, ticketCall}
 use Rattle.demands.specs.Longest.Figures.{sheet-figures}
-use Rattle.demands.specs.Longest.Names.{not-minus-component, not-minus-of-lighter, not-minus-of-equal, bracket-differs}
+use Rattle.demands.specs.Longest.Names.{not-minus-component, not-minus-of-lighter, not-minus-of-equal}
+use Rattle.demands.specs.Longest.Names.{bracket-differs}
 pub mod Figures
 pub mod Names
 pub mod Reached
@@ -62,7 +64,9 @@ no-longer-report s T h = report-length-le _ (printable h)
 abbrev pub Short : Outcome → Type 0
 Short o = (j : Judgement) → o ≡ Judged j → length (reportText j) ≤ 161
 
-said-short : {j : Judgement} → j ≡ judgementOf (j .standard) (j .test) → Specimen (j .standard) (j .test) → length (reportText j) ≤ 161
+said-short :
+    {j : Judgement} → j ≡ judgementOf (j .standard) (j .test) → Specimen (j .standard) (j .test) →
+    length (reportText j) ≤ 161
 said-short is asked = subst (λ (k : Judgement). length (reportText k) ≤ 161) (sym is) (no-longer-report _ _ asked)
 
 pub judged-short : (xs : List ℕ) (r : Reading) → Short (judgedBy (decode xs) r)
@@ -80,16 +84,20 @@ EnoughRoom call = (room : List ℕ) (column : ℕ) → column + 161 ≤ length r
 abbrev Below10 : ℕ → Type 0
 Below10 n = n < 10
 
-room-below-10 : (o : Outcome) → Short o → (room : List ℕ) (column : ℕ) → column + 161 ≤ length room → Below10 (roomFault o room column .number)
+room-below-10 :
+    (o : Outcome) → Short o → (room : List ℕ) (column : ℕ) → column + 161 ≤ length room →
+    Below10 (roomFault o room column .number)
 unfolding hasRoom
 room-below-10 (Refused n) short room column some = omega arith
 room-below-10 (Judged j) short room column some =
     rw (le-leb (column + length (reportText j)) (length room) (omega (arith, short j refl))) (omega arith)
 
 refusal-below-10 :
-    (fs : List Fault) → Each Below10 fs → (o : Outcome) → Short o → (room : List ℕ) (column : ℕ) → column + 161 ≤ length room →
+    (fs : List Fault) → Each Below10 fs → (o : Outcome) → Short o → (room : List ℕ) (column : ℕ) →
+    column + 161 ≤ length room →
     refusal (roomFault o room column ∷ fs) < 10
-refusal-below-10 fs each o short room column some = refusal-keeps Below10 (omega arith) (more (room-below-10 o short room column some) each)
+refusal-below-10 fs each o short room column some =
+    refusal-keeps Below10 (omega arith) (more (room-below-10 o short room column some) each)
 
 pub enough-room : (xs : List ℕ) (r : Reading) → EnoughRoom (judgeCall xs r)
 unfolding judgeCall
@@ -100,5 +108,11 @@ enough-room xs r room column some ten =
 pub enough-room-for-a-ticket : (text : List ℕ) → EnoughRoom (ticketCall text)
 unfolding ticketCall
 enough-room-for-a-ticket text room column some ten =
-    let each = ticket-each Below10 (omega arith) (omega arith) (omega arith) (omega arith) (omega arith) (omega arith) (ticketOf text) in
-    omega (arith, refusal-below-10 _ each (ticketOutcome (ticketOf text)) (ticket-short (ticketOf text)) room column some)
+    let each =
+    ticket-each Below10 (omega arith) (omega arith) (omega arith) (omega arith) (omega arith) (omega arith)
+    (ticketOf text) in
+    omega (
+      arith,
+      refusal-below-10 _ each (ticketOutcome (ticketOf text)) (ticket-short (ticketOf text)) room column
+          some,
+    )

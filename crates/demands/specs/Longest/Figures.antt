@@ -1,4 +1,5 @@
--- The sheet's own figures keep within what `Printable` allows a report: how many digits line 8 can have. Assumes nothing.
+-- The sheet's own figures keep within what `Printable` allows a report: how many digits line 8 can have.
+-- Assumes nothing.
 use Prim.Native.Nat.{ℕ, _*_, _^_, _≤_, _<_}
 use native.Mathlib.Nat.{mul-le-mul, mul-le-mul-left}
 use native.Mathlib.Omega.{arith}
@@ -27,39 +28,55 @@ module _ (ones m e : ℕ) (some : 0 < e) where
       rw abs-component (div-lt _ (l * S) (ones * 2 ^ 20) (omega arith) (omega (arith, mul-le-mul-left ones g)))
 
   componentH-lt : (S : ℕ) (Δ : ℤ) → ∣ Δ ∣ ≤ m → e ≤ S → m < ones * e → Under ones ∣ componentH 20 S Δ ∣
-  componentH-lt S Δ h g most = rw abs-componentH (div-lt _ S (ones * 2 ^ 20) (omega arith) (omega (arith, mul-le-mul-left ones g)))
+  componentH-lt S Δ h g most =
+      rw abs-componentH (div-lt _ S (ones * 2 ^ 20) (omega arith) (omega (arith, mul-le-mul-left ones g)))
 
 -- under CIELAB: ΔL is at most 120, ΔC at most 512, ΔH below 725
-under-cielab : (C : ℕ) {Δ : Shift} → Moved Δ → UnderCielab (differences 20 1000 1000 (record { C = C; SL = 2 ^ 20; SC = 2 ^ 20; SH = 2 ^ 20 }) Δ)
+under-cielab :
+    (C : ℕ) {Δ : Shift} → Moved Δ →
+    UnderCielab (differences 20 1000 1000 (record { C = C; SL = 2 ^ 20; SC = 2 ^ 20; SH = 2 ^ 20 }) Δ)
 unfolding differences total
 under-cielab C {Δ} h =
     let one : ℕ = 1000 * 2 ^ 20 in
-    let DL = component-lt 121 (120 * 2 ^ 20) one (omega arith) 1000 (2 ^ 20) (Δ .L) (h .L) (omega arith) (omega arith) in
+    let DL =
+    component-lt 121 (120 * 2 ^ 20) one (omega arith) 1000 (2 ^ 20) (Δ .L) (h .L) (omega arith) (omega arith) in
     let DC = component-lt 513 (2 ^ 29) one (omega arith) 1000 (2 ^ 20) (Δ .C) (h .C) (omega arith) (omega arith) in
     let DH = componentH-lt 725 759250125 (2 ^ 20) (omega arith) (2 ^ 20) (Δ .H) (h .H) (omega arith) (omega arith) in
     record {
-      DE = root-lt 2 _ (1000 * 2 ^ 20) (omega arith) (omega (arith, mul-le-mul DL DL, mul-le-mul DC DC, mul-le-mul DH DH));
+      DE =
+          root-lt 2 _ (1000 * 2 ^ 20) (omega arith)
+          (omega (arith, mul-le-mul DL DL, mul-le-mul DC DC, mul-le-mul DH DH));
       DL = omega arith;
       DC = omega arith;
       DH = omega arith;
     }
 
 -- under CIE94 and CMC: SL is at least 0.511 and SC at least 0.638
-under-factors : {l c : ℕ} {S : SemiAxes} {Δ : Shift} → Factor l → Factor c → SemiAxesInRange S → Moved Δ → UnderFactors l c (differences 20 l c S Δ)
+under-factors :
+    {l c : ℕ} {S : SemiAxes} {Δ : Shift} → Factor l → Factor c → SemiAxesInRange S → Moved Δ →
+    UnderFactors l c (differences 20 l c S Δ)
 unfolding differences
 under-factors {Δ = Δ} hl hc s m =
     let p = components-fit hl hc s m in
     record {
       DE = omega (arith, total-lt p);
       DL = omega arith;
-      DL-at-ten = λ e. component-lt 100 (120 * 2 ^ 20) (10000 * 535822) (omega arith) _ _ (Δ .L) (m .L) (rw e (omega (arith, s .SL))) (omega arith);
+      DL-at-ten =
+          λ e. component-lt 100 (120 * 2 ^ 20) (10000 * 535822) (omega arith) _ _ (Δ .L) (m .L)
+          (rw e (omega (arith, s .SL))) (omega arith);
       DC = omega arith;
-      DC-at-ten = λ e. component-lt 100 (2 ^ 29) (10000 * 668991) (omega arith) _ _ (Δ .C) (m .C) (rw e (omega (arith, s .SC))) (omega arith);
+      DC-at-ten =
+          λ e. component-lt 100 (2 ^ 29) (10000 * 668991) (omega arith) _ _ (Δ .C) (m .C) (rw e (omega (arith, s .SC)))
+          (omega arith);
       DH = omega arith;
     }
 
 pub sheet-figures : (f : Formula) {l c : ℕ} {R T : GridColour} → InRange l c R T → Figures f l c (sheet 20 f l c R T)
 unfolding sheet semiAxes semiAxesCIELAB
 sheet-figures CIELAB h = under-cielab _ (shift-of-grid (h .reference) (h .specimen))
-sheet-figures CIE94 h = under-factors (h .lightness) (h .chroma) (semi-axes-of-grid CIE94 (h .reference)) (shift-of-grid (h .reference) (h .specimen))
-sheet-figures CMC h = under-factors (h .lightness) (h .chroma) (semi-axes-of-grid CMC (h .reference)) (shift-of-grid (h .reference) (h .specimen))
+sheet-figures CIE94 h =
+    under-factors (h .lightness) (h .chroma) (semi-axes-of-grid CIE94 (h .reference))
+    (shift-of-grid (h .reference) (h .specimen))
+sheet-figures CMC h =
+    under-factors (h .lightness) (h .chroma) (semi-axes-of-grid CMC (h .reference))
+    (shift-of-grid (h .reference) (h .specimen))

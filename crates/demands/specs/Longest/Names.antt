@@ -1,5 +1,5 @@
--- The sheet's own names keep within what `Printable` allows a report: which go with no minus, and that a hue's bracket is another axis than its name.
--- Assumes nothing.
+-- The sheet's own names keep within what `Printable` allows a report: which go with no minus, and that a hue's bracket
+-- is another axis than its name. Assumes nothing.
 use mathlib.Core.Path.{_≡_, refl}
 use mathlib.Core.Bool.{Bool, true, false, cond}
 use Prim.Native.Nat.{ℕ, _*_, _/_, _^_, zero-le}
@@ -57,10 +57,13 @@ module _ (x y a b : ℤ) (name bracket : Axis) where
   unfolding hueNamed
   bracket-differs-by = go (sameHue x y) (firstMet (minus x) a b)
     where
-      go : (same : Bool) (first : Axis) → cond same H.Equal (H.Towards first (nextMet (minus x) first)) ≡ H.Towards name bracket → name ≡ bracket → ⊥
+      go :
+          (same : Bool) (first : Axis) → cond same H.Equal (H.Towards first (nextMet (minus x) first))
+          ≡ H.Towards name bracket → name ≡ bracket → ⊥
       go true first e f = let no : _≡_ {A = ℕ} 0 1 = cc in omega arith
       go false first e f = turn-moves (minus x) first (cc (next-turn (minus x) first))
 
-pub bracket-differs : (R T : GridColour) (name bracket : Axis) → hueName R T ≡ H.Towards name bracket → name ≡ bracket → ⊥
+pub bracket-differs :
+    (R T : GridColour) (name bracket : Axis) → hueName R T ≡ H.Towards name bracket → name ≡ bracket → ⊥
 unfolding hueName
 bracket-differs R T name bracket = bracket-differs-by _ _ _ _ name bracket

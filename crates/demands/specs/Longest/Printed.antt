@@ -1,5 +1,5 @@
--- NOTHING THAT THE PROGRAM PRINTS IS LONGER THAN 161 BYTES, report or refusal, whatever text it reads: into a slice of so many bytes all of it goes.
--- Assumes nothing.
+-- NOTHING THAT THE PROGRAM PRINTS IS LONGER THAN 161 BYTES, report or refusal, whatever text it reads: into a slice of
+-- so many bytes all of it goes. Assumes nothing.
 use mathlib.Core.Path.{_≡_, refl, _∙_}
 use mathlib.Core.List.{List}
 use Prim.Native.Nat.{ℕ, _≤_}
@@ -27,7 +27,8 @@ outcome-length-le (Judged j) line short = short j refl
 module _ (text : List ℕ) where
   pub printed-length-le : length (printedText text) ≤ 161
   unfolding printedText
-  printed-length-le = outcome-length-le (ticketOutcome (ticketOf text)) (lineOf (ticketOf text)) (ticket-short (ticketOf text))
+  printed-length-le =
+      outcome-length-le (ticketOutcome (ticketOf text)) (lineOf (ticketOf text)) (ticket-short (ticketOf text))
 
   pub all-is-printed :
       {before after : List ℕ} {n : ℕ} → 161 ≤ length before → Prints before (printedText text) n after →

@@ -1,5 +1,5 @@
--- 161 bytes are reached: a report that has them all, by computing, and a call that is refused for want of room wherever there are fewer.
--- Assumes nothing.
+-- 161 bytes are reached: a report that has them all, by computing, and a call that is refused for want of room wherever
+-- there are fewer. Assumes nothing.
 use mathlib.Core.Path.{_≡_, refl, sym, _∙_}
 use mathlib.Core.List.{List, [], _∷_}
 use Prim.Native.Nat.{ℕ, _+_, _^_, _<_}
@@ -12,7 +12,8 @@ use Rattle.rounding.specs.Signed.{_·_, _÷_}
 use Rattle.colour.specs.Conversion.{atPlaces}
 use Rattle.colour.specs.declared.conversion.GridColour.{GridColour}
 use Rattle.colour.specs.declared.white.White.the-variants.{D65Ten}
-use Rattle.sheet.specs.Sheet.{chroma, distance², cross, dot, sameHue, hueChange, component, componentH, total, semiAxesCIELAB}
+use Rattle.sheet.specs.Sheet.{chroma, distance², cross, dot, sameHue, hueChange, component, componentH, total}
+use Rattle.sheet.specs.Sheet.{semiAxesCIELAB}
 use Rattle.sheet.specs.Sheet.{semiAxes, shift, differences, sheet, comparison, compared, verdictOn}
 use Rattle.sheet.specs.declared.formula.Formula.the-variants.{CIELAB}
 use Rattle.names.specs.Names.{met, firstMet, hueNamed, hueName}
@@ -67,18 +68,25 @@ pub record Reached : Type 0 where
   pub bytes : length (reportText (judgementOf standard test)) ≡ 161
 
 pub reached : Reached
-unfolding rootOf _÷_ atPlaces chroma distance² cross dot sameHue hueChange component componentH total semiAxesCIELAB semiAxes shift differences sheet
-    comparison compared verdictOn met firstMet hueNamed hueName shown lastDigits widthIn decimalText line settingLines figureLines wordLines reportText
+unfolding rootOf _÷_ atPlaces chroma distance² cross dot sameHue hueChange component componentH total semiAxesCIELAB
+    semiAxes shift differences sheet
+    comparison compared verdictOn met firstMet hueNamed hueName shown lastDigits widthIn decimalText line settingLines
+    figureLines wordLines reportText
     judgementOf
 reached = record { asked = search needs; written = refl; bytes = refl }
 
--- ---- NO LESS ROOM IS ENOUGH: with this standard loaded, the test specimen is refused in every room of fewer bytes from the column on
+-- ---- NO LESS ROOM IS ENOUGH: with this standard loaded, the test specimen is refused in every room of fewer bytes
+-- from the column on
 
 test-judged : judgedBy (decode (encode standard)) (asLab test) ≡ Judged (judgementOf standard test)
 unfolding judgedBy outcome
 test-judged = rw (decode-encode standard (reached .asked .standard), place-back D65Ten test (reached .asked .test))
 
-pub no-less-room : (room : List ℕ) (column : ℕ) → length room < column + 161 → judgeCall (encode standard) (asLab test) room column .number ≡ 10
+pub no-less-room :
+    (room : List ℕ) (column : ℕ) → length room < column + 161 →
+    judgeCall (encode standard) (asLab test) room column .number ≡ 10
 no-less-room room column less =
-    let given = judge-call-gives (asLab test) room column (encode standard) (sym test-judged) (reported-judged room column refl refl refl) in
+    let given =
+    judge-call-gives (asLab test) room column (encode standard) (sym test-judged)
+    (reported-judged room column refl refl refl) in
     sym (given .number) ∙ write-number-ten room column (judgementOf standard test) (omega (arith, reached .bytes))
