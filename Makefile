@@ -1,4 +1,4 @@
-# make install PREFIX=/usr/local [DESTDIR=..]    the program, the library for C, its header, pkg-config file and man page
+# make install PREFIX=/usr/local [DESTDIR=..]    the program, libshade.a, its header, pkg-config file and man page
 # make uninstall PREFIX=/usr/local [DESTDIR=..]  takes them away
 # make test                                      the one test command
 PREFIX = /usr/local
@@ -10,6 +10,9 @@ MAN = $(DESTDIR)$(PREFIX)/share/man/man1
 PROGRAM = target/bin/shadepass
 ARCHIVE = target/staticlib/libshade.a
 SOURCES = crates.txt $(shell find crates -type f)
+
+# the header decides
+VERSION = $(shell awk '/^.define SHADE_VERSION_M/ { printf "%s%s", dot, $$3; dot = "." }' include/shade.h)
 
 .PHONY: all install uninstall test
 
@@ -30,7 +33,7 @@ install: all
 	install -m 755 $(PROGRAM) $(LIB)/shadepass/program
 	install -m 644 $(ARCHIVE) $(LIB)/libshade.a
 	install -m 644 include/shade.h $(INCLUDE)/shade.h
-	sed 's|@PREFIX@|$(PREFIX)|' shade.pc.in >$(LIB)/pkgconfig/shade.pc
+	sed 's|@PREFIX@|$(PREFIX)|; s|@VERSION@|$(VERSION)|' shade.pc.in >$(LIB)/pkgconfig/shade.pc
 	install -m 644 man/shadepass.1 $(MAN)/shadepass.1
 
 uninstall:

@@ -1,5 +1,5 @@
-/* Little CMS: cmsCMCdeltaE, and cmsXYZ2Lab before it for X, Y, Z. It gives DE alone; the report has the CIELAB shift for DL, DC and
- * DH, by cmsLab2LCh. It makes no range checks. */
+/* Little CMS: cmsCMCdeltaE, and cmsXYZ2Lab before it for X, Y, Z. It gives DE alone; the report has the CIELAB shift
+ * for DL, DC and DH, by cmsLab2LCh. It makes no range checks. */
 #include "pairs.h"
 #include "plain.h"
 
@@ -72,14 +72,16 @@ static const struct row rows[] = {
     {"judge_xyz", judge_xyz}, {"judge_lab", judge_lab},         {0, 0},
 };
 
+static int load(int i)
+{
+    int refused = set_standard(&xyz_standards[i], WHITE, L_THOUSANDTHS / 1000.0, C_THOUSANDTHS / 1000.0,
+                               TOLERANCE_THOUSANDTHS / 1000.0);
+    lab_standards[i] = xyz_standards[i];
+    from_lab(&lab_standards[i].reference, references[i].lab);
+    return refused | load_xyz(i);
+}
+
 int main(int count, char **words)
 {
-    make_pairs();
-    for (int i = 0; i < PAIRS; i++) {
-        set_standard(&xyz_standards[i], WHITE, L_THOUSANDTHS / 1000.0, C_THOUSANDTHS / 1000.0, TOLERANCE_THOUSANDTHS / 1000.0);
-        lab_standards[i] = xyz_standards[i];
-        load_xyz(i);
-        from_lab(&lab_standards[i].reference, references[i].lab);
-    }
-    return run(rows, count, words);
+    return run(rows, load, count, words);
 }

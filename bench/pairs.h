@@ -1,13 +1,14 @@
-/* The 64 pairs that every program of bench/ is counted on: a reference over the colour solid, and a test specimen near it, as
- * in shade passing. Twelve references are achromatic, so that their report withholds DC and DH; the first has a* = b* = 0.
+/* The 64 pairs that every program of bench/ is counted on: a reference over the colour solid, and a test specimen near
+ * it, as in shade passing. Twelve references are achromatic, so that their report withholds DC and DH; the first has a*
+ * = b* = 0.
  *
- * No headers: where the machine is no x86-64 this is compiled for x86-64, whose headers are not at hand there. */
-typedef unsigned char u8;
-typedef unsigned int u32;
-typedef unsigned long usize;
+ * No headers but these two: these programs are x86-64 ones wherever they are compiled, and what they take from the C
+ * library is declared here. */
+#include <stddef.h>
+#include <stdint.h>
 
 int printf(const char *, ...);
-int snprintf(char *, usize, const char *, ...);
+int snprintf(char *, size_t, const char *, ...);
 int atoi(const char *);
 int strcmp(const char *, const char *);
 
@@ -24,7 +25,7 @@ struct specimen {
 
 static struct specimen references[PAIRS], tests[PAIRS];
 static char lab_tickets[PAIRS][TICKET], xyz_tickets[PAIRS][TICKET];
-static usize lab_lengths[PAIRS], xyz_lengths[PAIRS];
+static size_t lab_lengths[PAIRS], xyz_lengths[PAIRS];
 static char room[ROOM];
 
 /* What every call is given: CMC(2:1) under D65/10, the values that BS 6923 names for textiles. */
@@ -33,9 +34,9 @@ enum { WHITE = 1, L_THOUSANDTHS = 2000, C_THOUSANDTHS = 1000, TOLERANCE_THOUSAND
 /* The next of a fixed row of numbers from -most to most. */
 static int next_number(int most)
 {
-    static u32 seed = 6923;
+    static uint32_t seed = 6923;
     seed = seed * 1664525u + 1013904223u;
-    return (int)((seed >> 8) % (u32)(2 * most + 1)) - most;
+    return (int)((seed >> 8) % (uint32_t)(2 * most + 1)) - most;
 }
 
 /* BS 6923 3.1 backwards, to four decimals. */
@@ -49,25 +50,27 @@ static struct specimen specimen_of(int l, int a, int b)
 {
     struct triple lab = {l / 100.0, a / 100.0, b / 100.0};
     double fy = (lab.x + 16) / 116;
-    struct triple xyz = {tristimulus(fy + lab.y / 500, 94.811), tristimulus(fy, 100), tristimulus(fy - lab.z / 200, 107.304)};
+    struct triple xyz = {tristimulus(fy + lab.y / 500, 94.811), tristimulus(fy, 100),
+                         tristimulus(fy - lab.z / 200, 107.304)};
     struct specimen s = {lab, xyz};
     return s;
 }
 
 /* Puts a number with d decimals and the byte after it. */
-static usize put_decimal(char *text, double x, int d, char after)
+static size_t put_decimal(char *text, double x, int d, char after)
 {
     int one = d == 2 ? 100 : 10000, n = (int)(x * one + (x < 0 ? -0.5 : 0.5)), m = n < 0 ? -n : n;
-    return (usize)snprintf(text, 20, "%s%d.%0*d%c", n < 0 ? "-" : "", m / one, d, m % one, after);
+    return (size_t)snprintf(text, 20, "%s%d.%0*d%c", n < 0 ? "-" : "", m / one, d, m % one, after);
 }
 
-static usize put_ticket(char *text, const char *space, int d, struct triple r, struct triple t)
+static size_t put_ticket(char *text, const char *space, int d, struct triple r, struct triple t)
 {
-    usize n = (usize)snprintf(text, TICKET, "formula=CMC\nwhite=D65/10\nl=2.000\nc=1.000\ntol=1.000\nspace=%s\nref=", space);
+    size_t n =
+        (size_t)snprintf(text, TICKET, "formula=CMC\nwhite=D65/10\nl=2.000\nc=1.000\ntol=1.000\nspace=%s\nref=", space);
     n += put_decimal(text + n, r.x, d, ' ');
     n += put_decimal(text + n, r.y, d, ' ');
     n += put_decimal(text + n, r.z, d, '\n');
-    n += (usize)snprintf(text + n, TICKET - n, "test=");
+    n += (size_t)snprintf(text + n, TICKET - n, "test=");
     n += put_decimal(text + n, t.x, d, ' ');
     n += put_decimal(text + n, t.y, d, ' ');
     return n + put_decimal(text + n, t.z, d, '\n');
@@ -82,7 +85,9 @@ static void make_pairs(void)
         if (i == 0)
             a = b = 0;
         references[i] = specimen_of(l, a, b);
-        tests[i] = specimen_of(l + next_number(step), a + next_number(step), b + next_number(step));
+        /* one after another: compilers differ in the order of a call's arguments */
+        int away_b = next_number(step), away_a = next_number(step), away_l = next_number(step);
+        tests[i] = specimen_of(l + away_l, a + away_a, b + away_b);
     }
 }
 
@@ -100,9 +105,10 @@ struct row {
     int (*call)(int i);
 };
 
-/* PROGRAM ROW ROUNDS [PAIR] makes the call of that name for every pair, or for one, ROUNDS times: the instructions of ROUNDS + 1
- * less those of ROUNDS are the calls' alone. PROGRAM ROW makes it once and prints the reports. The last row has no name. */
-static int run(const struct row *row, int count, char **words)
+/* PROGRAM ROW ROUNDS [PAIR] makes the call of that name for every pair, or for one, ROUNDS times: the instructions of
+ * ROUNDS + 1 less those of ROUNDS are the calls' alone. PROGRAM ROW makes it once and prints the reports. The last row
+ * has no name. Before all that `load` loads the standards of each pair. */
+static int run(const struct row *row, int (*load)(int i), int count, char **words)
 {
     int refused = 0, rounds = count > 2 ? atoi(words[2]) : 0;
     int first = count > 3 ? atoi(words[3]) : 0, last = count > 3 ? first : PAIRS - 1;
@@ -110,6 +116,9 @@ static int run(const struct row *row, int count, char **words)
         row++;
     if (row->name == 0)
         return 2;
+    make_pairs();
+    for (int i = 0; i < PAIRS; i++)
+        refused |= load(i);
     if (row->name[0] == 't')
         make_tickets();
     for (int turn = 0; turn < rounds; turn++)

@@ -6,7 +6,7 @@ static struct standard xyz_standards[PAIRS], lab_standards[PAIRS];
 static struct colour test;
 static struct differences found;
 
-static int load(struct standard *s)
+static int set(struct standard *s)
 {
     return set_standard(s, WHITE, L_THOUSANDTHS / 1000.0, C_THOUSANDTHS / 1000.0, TOLERANCE_THOUSANDTHS / 1000.0);
 }
@@ -14,13 +14,18 @@ static int load(struct standard *s)
 static int load_xyz(int i)
 {
     struct triple r = references[i].xyz;
-    return load(&xyz_standards[i]) | colour_of_xyz(&xyz_standards[i].reference, WHITE, r.x, r.y, r.z);
+    return set(&xyz_standards[i]) | colour_of_xyz(&xyz_standards[i].reference, WHITE, r.x, r.y, r.z);
 }
 
 static int load_lab(int i)
 {
     struct triple r = references[i].lab;
-    return load(&lab_standards[i]) | colour_of_lab(&lab_standards[i].reference, r.x, r.y, r.z);
+    return set(&lab_standards[i]) | colour_of_lab(&lab_standards[i].reference, r.x, r.y, r.z);
+}
+
+static int load(int i)
+{
+    return load_xyz(i) | load_lab(i);
 }
 
 static int calculate_xyz(int i)
@@ -60,15 +65,12 @@ static int ticket_lab(int i)
 }
 
 static const struct row rows[] = {
-    {"load_xyz", load_xyz},   {"load_lab", load_lab},   {"calculate_xyz", calculate_xyz}, {"calculate_lab", calculate_lab},
-    {"judge_xyz", judge_xyz}, {"judge_lab", judge_lab}, {"ticket_xyz", ticket_xyz},       {"ticket_lab", ticket_lab}, {0, 0},
+    {"load_xyz", load_xyz},           {"load_lab", load_lab},     {"calculate_xyz", calculate_xyz},
+    {"calculate_lab", calculate_lab}, {"judge_xyz", judge_xyz},   {"judge_lab", judge_lab},
+    {"ticket_xyz", ticket_xyz},       {"ticket_lab", ticket_lab}, {0, 0},
 };
 
 int main(int count, char **words)
 {
-    int refused = 0;
-    make_pairs();
-    for (int i = 0; i < PAIRS; i++)
-        refused |= load_xyz(i) | load_lab(i);
-    return refused | run(rows, count, words);
+    return run(rows, load, count, words);
 }

@@ -1,14 +1,14 @@
-/* BS 6923 in plain C: CMC(l:c) in double, the report by one snprintf, the ticket by strncmp and strtod. Written as a host programmer
- * would write it with the standard at hand; where two ways are usual, the cheaper one is taken. Its decimals are rounded to the
- * nearest. */
+/* BS 6923 in plain C: CMC(l:c) in double, the report by one snprintf, the ticket by strncmp and strtod. Written as a
+ * host programmer would write it with the standard at hand; where two ways are usual, the cheaper one is taken. Its
+ * decimals are rounded to the nearest. */
 double sqrt(double);
 double cbrt(double);
 double cos(double);
 double atan2(double, double);
 double fabs(double);
 double strtod(const char *, char **);
-int strncmp(const char *, const char *, usize);
-usize strlen(const char *);
+int strncmp(const char *, const char *, size_t);
+size_t strlen(const char *);
 
 /* Not merged into the loop that counts it: a host calls it with numbers that the compiler does not know. */
 #define CALL __attribute__((noinline, unused)) static
@@ -49,7 +49,7 @@ static double cube_root_or_line(double q)
     return q > 0.008856 ? cbrt(q) : 7.787 * q + 16.0 / 116;
 }
 
-/* 3.1. The answers of this and the calls below are 0, or the refusal number of libshade where it has one for the case. */
+/* 3.1. The answers of this and the calls below are 0, or the refusal number that libshade has for the case. */
 CALL int colour_of_xyz(struct colour *colour, int white, double x, double y, double z)
 {
     const struct white *n = &whites[white - 1];
@@ -105,7 +105,8 @@ CALL struct differences compare(const struct standard *s, struct colour t)
     double h = atan2(r.b, r.a) / degree;
     if (h < 0)
         h += 360;
-    double hue = h > 164 && h < 345 ? 0.56 + fabs(0.2 * cos((168 + h) * degree)) : 0.36 + fabs(0.4 * cos((35 + h) * degree));
+    double hue =
+        h > 164 && h < 345 ? 0.56 + fabs(0.2 * cos((168 + h) * degree)) : 0.36 + fabs(0.4 * cos((35 + h) * degree));
     double c4 = cr * cr * cr * cr, f = sqrt(c4 / (c4 + 1900));
     double sl = r.L < 16 ? 0.511 : 0.040975 * r.L / (1 + 0.01765 * r.L);
     double sc = 0.0638 * cr / (1 + 0.0131 * cr) + 0.638;
@@ -126,7 +127,7 @@ static void hue_names(struct colour r, int clockwise, const char **name, const c
 }
 
 /* 4 and 5, in the twelve lines of libshade's report. */
-CALL int report(const struct standard *s, struct colour t, struct differences d, char *into, usize most)
+CALL int report(const struct standard *s, struct colour t, struct differences d, char *into, size_t most)
 {
     struct colour r = s->reference;
     const char *white = whites[s->white - 1].name, *lightness = t.L > r.L ? "lighter" : t.L < r.L ? "darker" : "equal";
@@ -145,10 +146,10 @@ CALL int report(const struct standard *s, struct colour t, struct differences d,
         if (turned)
             hue_names(r, cross < 0, &name, &bracket);
         n = snprintf(into, most,
-            "formula=CMC\nwhite=%s\nl=%.3f\nc=%.3f\nDE=%.4f\nDL=%.4f\nDC=%.4f\nDH=%.4f\n"
-            "lightness=%s\nchroma=%s\nhue=%s%s%s%s\nverdict=%s\n",
-            white, s->l, s->c, d.DE, d.DL, d.DC, d.DH, lightness, chroma, name, turned ? "(" : "", bracket, turned ? ")" : "",
-            verdict);
+                     "formula=CMC\nwhite=%s\nl=%.3f\nc=%.3f\nDE=%.4f\nDL=%.4f\nDC=%.4f\nDH=%.4f\n"
+                     "lightness=%s\nchroma=%s\nhue=%s%s%s%s\nverdict=%s\n",
+                     white, s->l, s->c, d.DE, d.DL, d.DC, d.DH, lightness, chroma, name, turned ? "(" : "", bracket,
+                     turned ? ")" : "", verdict);
     }
     return n < (int)most ? 0 : 10;
 }
@@ -156,7 +157,7 @@ CALL int report(const struct standard *s, struct colour t, struct differences d,
 /* Steps over a text that is due. */
 static int has(const char **at, const char *due)
 {
-    usize n = strlen(due);
+    size_t n = strlen(due);
     if (strncmp(*at, due, n) != 0)
         return 0;
     *at += n;
@@ -184,7 +185,7 @@ static int specimen(const char **at, int white, int is_xyz, struct colour *colou
 }
 
 /* Ticket to report. */
-CALL int judge_ticket(const char *text, char *into, usize most)
+CALL int judge_ticket(const char *text, char *into, size_t most)
 {
     struct standard s;
     struct colour t;
@@ -196,8 +197,8 @@ CALL int judge_ticket(const char *text, char *into, usize most)
     for (int i = 0; i < 4 && white == 0; i++)
         if (has(&at, whites[i].name))
             white = i + 1;
-    if (white == 0 || !has(&at, "\nl=") || !number(&at, '\n', &l) || !has(&at, "c=") || !number(&at, '\n', &c) || !has(&at, "tol=") ||
-        !number(&at, '\n', &tolerance) || !has(&at, "space="))
+    if (white == 0 || !has(&at, "\nl=") || !number(&at, '\n', &l) || !has(&at, "c=") || !number(&at, '\n', &c) ||
+        !has(&at, "tol=") || !number(&at, '\n', &tolerance) || !has(&at, "space="))
         return 7;
     is_xyz = has(&at, "XYZ\n");
     if (!is_xyz && !has(&at, "LAB\n"))

@@ -1,4 +1,5 @@
-/* A host of the station: loads a standard, judges three test specimens, loads another standard, and says what a refusal means.
+/* A host of the station: loads a standard, judges three test specimens, loads another standard, and says what a refusal
+ * means.
  *
  *     cc -Iinclude -o host examples/host.c target/staticlib/libshade.a && ./host
  *
@@ -67,7 +68,8 @@ int main(void)
 
     /* a refused load leaves the standard that was there; an accepted one takes its place */
     answer("load formula 4", shade_load_lab(station, sizeof station, 4, SHADE_D65_10, 2000, 1000, 1000, 50, 0, 0));
-    answer("load again", shade_load_xyz(station, sizeof station, SHADE_CIELAB, SHADE_C_2, 1000, 1000, 2500, 20.25, 19.75, 26.25));
+    answer("load again",
+           shade_load_xyz(station, sizeof station, SHADE_CIELAB, SHADE_C_2, 1000, 1000, 2500, 20.25, 19.75, 26.25));
     print("third again", shade_judge_xyz(station, sizeof station, 20, 19.5, 26, page, sizeof page, used));
 
     print("judge a NaN", shade_judge_lab(station, sizeof station, zero / zero, 0, 0, page, sizeof page, used));
@@ -76,8 +78,10 @@ int main(void)
     print("judge into 100 bytes", shade_judge_lab(station, sizeof station, 50, 0, 0, page, 100, 0));
     answer("load into 19 bytes", shade_load_lab(station, 19, SHADE_CMC, SHADE_D65_10, 2000, 1000, 1000, 50, 0, 0));
     answer("load white 0", shade_load_lab(station, sizeof station, SHADE_CMC, 0, 2000, 1000, 1000, 50, 0, 0));
-    answer("load l of 0.4", shade_load_lab(station, sizeof station, SHADE_CMC, SHADE_D65_10, 400, 1000, 1000, 50, 0, 0));
-    answer("load tolerance 0", shade_load_lab(station, sizeof station, SHADE_CMC, SHADE_D65_10, 2000, 1000, 0, 50, 0, 0));
+    answer("load l of 0.4",
+           shade_load_lab(station, sizeof station, SHADE_CMC, SHADE_D65_10, 400, 1000, 1000, 50, 0, 0));
+    answer("load tolerance 0",
+           shade_load_lab(station, sizeof station, SHADE_CMC, SHADE_D65_10, 2000, 1000, 0, 50, 0, 0));
 
     print("ticket", shade_ticket(text, sizeof ticket - 1, page, sizeof page, used));
     print("ticket without its end", shade_ticket(text, sizeof ticket - 2, page, sizeof page, used));

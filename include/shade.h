@@ -1,30 +1,31 @@
 /* shade.h: a colour-difference station for C, in the static library libshade.a (x86-64, Linux).
  *
- * Load a standard, then judge test specimens against it; or hand over a ticket, a text that holds both. The answer is a number,
- * and for a judgement or a ticket a report of twelve lines. examples/host.c shows every call.
+ * Load a standard, then judge test specimens against it; or hand over a ticket, a text that holds both. The answer is a
+ * number, and for a judgement or a ticket a report of twelve lines. examples/host.c shows every call.
  *
  *     cc -Iinclude -o host examples/host.c target/staticlib/libshade.a
  *
  * Nothing is kept between calls but the bytes of the station, and those lie in memory that the host lends.
  *
  * SLICES
- *     A slice is a pointer and, right after it, a length in bytes. The host owns every slice; a call uses it until it returns and
- *     keeps no pointer. An empty slice (length 0) may have a null pointer, which is not followed. Slices of one call must not
- *     overlap. A slice that is not const must not be used by anything else while a call runs.
- *     The library has no state, allocates nothing, takes nothing from the C library but memcpy and its like, and touches no byte
- *     outside the slices lent to it. Calls may run in several threads at once, as long as none of them writes a slice that
- *     another one uses.
+ *     A slice is a pointer and, right after it, a length in bytes. The host owns every slice; a call uses it until it
+ *     returns and keeps no pointer. An empty slice (length 0) may have a null pointer, which is not followed. Slices of
+ *     one call must not overlap. A slice that is not const must not be used by anything else while a call runs.
+ *     The library has no state, allocates nothing, takes nothing from the C library but memcpy and its like, and
+ *     touches no byte outside the slices lent to it. Calls may run in several threads at once, as long as none of them
+ *     writes a slice that another one uses.
  *
  * ANSWERS
- *     Every call returns 0, or the number of its refusal. A refused call writes no byte: station and room stay as they were.
- *     Of several refusals that apply, the one given is the first in the order that stands over each call.
+ *     Every call returns 0, or the number of its refusal. A refused call writes no byte: station and room stay as they
+ *     were. Of several refusals that apply, the one given is the first in the order that stands over each call.
  *
  * READINGS
- *     Three doubles. X, Y, Z: from 0 to 150 each, read to the nearest millionth. Or L*, from 0 to 120, and a*, b*, from -256 to
- *     256, all read to the nearest 1/1048576. A tie goes away from zero. The ends are in range, and -0.0 is zero; the range is
- *     tested on the exact value, so 150.0000000000001 is out of it. Reference and test specimen may be read in different spaces.
- *     The processor's rounding mode does not matter. Its mode "denormals are zero", which gcc's -ffast-math turns on for a whole
- *     program, must be off: a reading below zero by less than 2.3e-308 would pass for zero.
+ *     Three doubles. X, Y, Z: from 0 to 150 each, read to the nearest millionth. Or L*, from 0 to 120, and a*, b*, from
+ *     -256 to 256, all read to the nearest 1/1048576. A tie goes away from zero. The ends are in range, and -0.0 is
+ *     zero; the range is tested on the exact value, so 150.0000000000001 is out of it. Reference and test specimen may
+ *     be read in different spaces.
+ *     The processor's rounding mode does not matter. Its mode "denormals are zero", which gcc's -ffast-math turns on
+ *     for a whole program, must be off: a reading below zero by less than 2.3e-308 would pass for zero.
  */
 #ifndef SHADE_H
 #define SHADE_H
@@ -36,19 +37,27 @@
 extern "C" {
 #endif
 
-/* formula: a figure or a tolerance of one is in another unit than one of another, and the two are not to be compared. */
+/* THE VERSION
+ *     SHADE_VERSION is MAJOR * 1000 + MINOR, a number for #if: 1.0 is 1000, and SHADE_VERSION >= 1002 asks for 1.2 or
+ *     later. */
+#define SHADE_VERSION_MAJOR 1
+#define SHADE_VERSION_MINOR 0
+#define SHADE_VERSION (SHADE_VERSION_MAJOR * 1000 + SHADE_VERSION_MINOR)
+
+/* formula: a figure or a tolerance of one is in another unit than one of another: the two are not to be compared. */
 #define SHADE_CIELAB 1
 #define SHADE_CIE94 2
 #define SHADE_CMC 3
 
-/* white: illuminant and observer. X, Y, Z become L*, a*, b* by the white that was loaded, those of the test specimen too. */
+/* white: illuminant and observer. X, Y, Z become L*, a*, b* by the white that was loaded, those of the test specimen
+ * too. */
 #define SHADE_D65_10 1
 #define SHADE_D65_2 2
 #define SHADE_C_10 3
 #define SHADE_C_2 4
 
-/* l, c and tolerance are whole thousandths: 1000 is 1. Both ends are in range. CIELAB does not use l and c, but tests and prints
- * them. The tolerance is a DE of the formula that it is loaded with. */
+/* l, c and tolerance are whole thousandths: 1000 is 1. Both ends are in range. CIELAB does not use l and c, but tests
+ * and prints them. The tolerance is a DE of the formula that it is loaded with. */
 #define SHADE_FACTOR_LEAST 500
 #define SHADE_FACTOR_MOST 10000
 #define SHADE_TOLERANCE_LEAST 100
@@ -64,10 +73,10 @@ extern "C" {
 #define SHADE_REFUSED_TICKET 7        /* the ticket's text is wrong */
 #define SHADE_REFUSED_BEYOND_256 8    /* X, Y, Z are in range, but give an a* or b* beyond 256 */
 #define SHADE_REFUSED_NO_STANDARD 9   /* a judgement, and the station holds no standard */
-#define SHADE_REFUSED_LENGTH 10       /* the room is shorter than the report, or the slice of a load is not a station's length */
+#define SHADE_REFUSED_LENGTH 10       /* the room is shorter than the report, or a load's slice has another length */
 
 /* THE STATION
- *     These bytes, without padding; numbers of several bytes have the lowest byte first, a* and b* are two's complement:
+ *     These bytes, without padding; a number of several bytes has the lowest first, a* and b* are two's complement:
  *
  *         at  bytes  holds                                  range
  *          0      1  formula                                1 to 3
@@ -79,17 +88,17 @@ extern "C" {
  *         12      4  a* of the reference, times 1048576     -268435456 to 268435456
  *         16      4  b* of the reference, times 1048576     -268435456 to 268435456
  *
- *     Start with zeros, which are no standard. A load writes all of them; nothing else does. A host may copy them, compare them
- *     and store them, for any time and on any machine: equal bytes are the same standard, and all that a judgement depends on.
- *     A slice of another length, or with a number out of its range, counts as no standard. Bytes that were changed within the
- *     ranges are not noticed: they are another standard. */
+ *     Start with zeros, which are no standard. A load writes all of them; nothing else does. A host may copy them,
+ *     compare them and store them, for any time and on any machine: equal bytes are the same standard, and all that a
+ *     judgement depends on. A slice of another length, or with a number out of its range, counts as no standard. Bytes
+ *     that were changed within the ranges are not noticed: they are another standard. */
 #define SHADE_STATION_BYTES 20
 
 /* THE REPORT
  *     Twelve lines, each ended by LF (10); no NUL follows. It is put into the room from a column on, counted from 0:
- *     room + column is its first byte. Bytes before it and after it stay. It ends after its twelfth LF. The room has to have as
- *     many bytes from the column on as the report is long; SHADE_REPORT_BYTES are always enough. A column at or past the room's
- *     end leaves none.
+ *     room + column is its first byte. Bytes before it and after it stay. It ends after its twelfth LF. The room has to
+ *     have as many bytes from the column on as the report is long; SHADE_REPORT_BYTES are always enough. A column at or
+ *     past the room's end leaves none.
  *
  *         formula=CMC                          CIELAB, CIE94 or CMC
  *         white=D65/10                         D65/10, D65/2, C/10 or C/2
@@ -101,15 +110,16 @@ extern "C" {
  *         DH=0.2245                            or withheld
  *         lightness=darker                     lighter, darker or equal
  *         chroma=more                          more, less, equal or withheld
- *         hue=redder(yellower)                 redder, yellower, greener or bluer, the next in brackets; equal; or withheld
+ *         hue=redder(yellower)                 redder, yellower, greener or bluer, and the next in brackets; or equal;
+ *                                              or withheld
  *         verdict=near                         pass, fail, or near: DE is within 0.002 of the tolerance
  *
- *     The four are withheld under CMC where the reference is achromatic: its a* and b*, squared, sum up to 16 at most. A number
- *     has a minus only if a digit is shown that is not 0. */
+ *     The four are withheld under CMC where the reference is achromatic: its a* and b*, squared, sum up to 16 at most.
+ *     A number has a minus only if a digit is shown that is not 0. */
 #define SHADE_REPORT_BYTES 161
 
 /* THE TICKET
- *     A text of these lines, each ended by LF, and nothing after them; l and c may both be left out, and are 1.000 then:
+ *     A text of these lines, each ended by LF, and nothing after them; l and c may both be left out, for 1.000 each:
  *
  *         formula=CMC                          CIELAB, CIE94 or CMC
  *         white=D65/10                         D65/10, D65/2, C/10 or C/2
@@ -117,41 +127,61 @@ extern "C" {
  *         c=1.000                              likewise
  *         tol=1.000                            likewise
  *         space=LAB                            XYZ or LAB
- *         ref=52.5 10.25 -7                    three numbers, one space between; each perhaps a minus, 1 to 3 digits, perhaps a
- *         test=50.75 11 -7.25                  point and 1 to 6 digits
+ *         ref=52.5 10.25 -7                    three numbers, one space between; each perhaps a minus, 1 to 3 digits,
+ *         test=50.75 11 -7.25                  perhaps a point and 1 to 6 digits
  *
  *     Capitals count, and there is no room for a CR, a tab, a plus or a second space. */
 #define SHADE_TICKET_BYTES 4096
 
 /* LOAD
- *     Takes a standard: formula, white, l, c, tolerance, and the reference as X, Y, Z or as L*, a*, b*. Writes the station; what
- *     was in it before, in range or not, is gone.
+ *     Takes a standard: formula, white, l, c, tolerance, and the reference as X, Y, Z or as L*, a*, b*. Writes the
+ *     station; what was in it before, in range or not, is gone.
  *
- *     Refusals, in this order:  1 formula;  2 white;  3 l, then c;  4 tolerance;  5 for any of the three readings;  6 for any of
- *     them;  8, from X, Y, Z only;  10 if station_len is not SHADE_STATION_BYTES.  Never 7 or 9. */
+ *     Refusals, in this order; no other is given:
+ *
+ *         SHADE_REFUSED_FORMULA
+ *         SHADE_REFUSED_WHITE
+ *         SHADE_REFUSED_FACTOR                 for l, then for c
+ *         SHADE_REFUSED_TOLERANCE
+ *         SHADE_REFUSED_NOT_A_NUMBER           for any of the three readings
+ *         SHADE_REFUSED_OUT_OF_RANGE           for any of them
+ *         SHADE_REFUSED_BEYOND_256             from X, Y, Z only
+ *         SHADE_REFUSED_LENGTH                 station_len is not SHADE_STATION_BYTES */
 uint32_t shade_load_xyz(uint8_t *station, size_t station_len, uint32_t formula, uint32_t white, uint32_t l, uint32_t c,
                         uint32_t tolerance, double x, double y, double z);
 uint32_t shade_load_lab(uint8_t *station, size_t station_len, uint32_t formula, uint32_t white, uint32_t l, uint32_t c,
                         uint32_t tolerance, double lightness, double a, double b);
 
 /* JUDGE
- *     Compares a test specimen with the standard that the station holds, and writes the report into the room. The station is read
- *     only. The report depends on the station's bytes and the readings alone, not on calls before.
+ *     Compares a test specimen with the standard that the station holds, and writes the report into the room. The
+ *     station is read only. The report depends on the station's bytes and the readings alone, not on calls before.
  *
- *     Refusals, in this order:  9 if the station holds no standard, whatever the readings are;  5 for any of the three readings;
- *     6 for any of them;  8, from X, Y, Z only;  10 if the room is short.  Never 1 to 4, nor 7. */
-uint32_t shade_judge_xyz(const uint8_t *station, size_t station_len, double x, double y, double z, uint8_t *room, size_t room_len,
-                         size_t column);
-uint32_t shade_judge_lab(const uint8_t *station, size_t station_len, double lightness, double a, double b, uint8_t *room,
+ *     Refusals, in this order; no other is given:
+ *
+ *         SHADE_REFUSED_NO_STANDARD            whatever the readings are
+ *         SHADE_REFUSED_NOT_A_NUMBER           for any of the three readings
+ *         SHADE_REFUSED_OUT_OF_RANGE           for any of them
+ *         SHADE_REFUSED_BEYOND_256             from X, Y, Z only
+ *         SHADE_REFUSED_LENGTH                 the room is short */
+uint32_t shade_judge_xyz(const uint8_t *station, size_t station_len, double x, double y, double z, uint8_t *room,
                          size_t room_len, size_t column);
+uint32_t shade_judge_lab(const uint8_t *station, size_t station_len, double lightness, double a, double b,
+                         uint8_t *room, size_t room_len, size_t column);
 
 /* TICKET
- *     Loads and judges what the text says, and writes the report into the room. It has nothing to do with any station. A ticket's
- *     decimals count as what they say: no double comes between.
+ *     Loads and judges what the text says, and writes the report into the room. It has nothing to do with any station.
+ *     A ticket's decimals count as what they say: no double comes between.
  *
- *     Refusals, in this order:  7 if the text is not as above, or longer than SHADE_TICKET_BYTES;  3 l, then c;  4 tolerance;
- *     6 for any number of the reference, then its 8, from X, Y, Z only;  6 and 8 for the test specimen, likewise;  10 if the room
- *     is short.  Never 1, 2, 5 or 9. */
+ *     Refusals, in this order; no other is given:
+ *
+ *         SHADE_REFUSED_TICKET                 the text is not as above, or longer than SHADE_TICKET_BYTES
+ *         SHADE_REFUSED_FACTOR                 for l, then for c
+ *         SHADE_REFUSED_TOLERANCE
+ *         SHADE_REFUSED_OUT_OF_RANGE           for any number of the reference
+ *         SHADE_REFUSED_BEYOND_256             for the reference, from X, Y, Z only
+ *         SHADE_REFUSED_OUT_OF_RANGE           for any number of the test specimen
+ *         SHADE_REFUSED_BEYOND_256             for the test specimen, from X, Y, Z only
+ *         SHADE_REFUSED_LENGTH                 the room is short */
 uint32_t shade_ticket(const uint8_t *text, size_t text_len, uint8_t *room, size_t room_len, size_t column);
 
 #ifdef __cplusplus

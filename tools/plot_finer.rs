@@ -1,16 +1,16 @@
-//! Draws docs/finer.svg: how far DE moves between 20 and 40 binary places, against DE, with the allowed and the proved lines.
-//! The sheet is the independent one of tests/paper.rs.
+//! Draws docs/finer.svg: how far DE moves between 20 and 40 binary places, against DE, with the allowed and the proved
+//! lines. The sheet is the independent one of tests/paper.
 //!
-//! Usage: rustc --edition 2021 -O -o target/plot_finer tools/plot_finer.rs && target/plot_finer >docs/finer.svg
+//! Usage: plot_finer >docs/finer.svg    (tools/plot_finer builds it and runs it)
 
-#[path = "../tests/paper.rs"]
-mod paper;
-#[allow(dead_code)] // of the widths of numbers there is no need here
-#[path = "../tests/random.rs"]
-mod random;
+#[path = "../tests/shared/mod.rs"]
+mod shared;
 
-use paper::{Colour, Formula};
-use random::Random;
+use shared::paper::conversion::Colour;
+use shared::paper::readings::{GRID_ONE, LIGHTEST, SIDE};
+use shared::paper::settings::Formula;
+use shared::paper::sheet::{sheet, PLACES};
+use shared::random::Random;
 
 const PAIRS: usize = 150_000;
 const FINE: u32 = 40;
@@ -41,41 +41,35 @@ fn coordinate(random: &mut Random, low: i64, high: i64) -> i64 {
     low + random.below((high - low + 1) as u64) as i64
 }
 
-/// A reference of one of three kinds: anywhere on the grid, nearly neutral, or dark and weak, where the semi-axes are small.
+/// A reference anywhere on the grid, nearly neutral, or weak, where the semi-axes are small.
 fn reference(random: &mut Random) -> Colour {
-    let one = paper::ONE as i64;
     let side = match random.below(3) {
-        0 => 256 * one,
-        1 => one / 4,
-        _ => 8 * one,
+        0 => SIDE,
+        1 => GRID_ONE / 4,
+        _ => 8 * GRID_ONE,
     };
-    [
-        coordinate(random, 0, 120 * one),
-        coordinate(random, -side, side),
-        coordinate(random, -side, side),
-    ]
+    [coordinate(random, 0, LIGHTEST), coordinate(random, -side, side), coordinate(random, -side, side)]
 }
 
 /// A test specimen at most some distance away, from a few units to the whole grid.
 fn specimen(random: &mut Random, reference: Colour) -> Colour {
-    let one = paper::ONE as i64;
     let reach = 1i64 << (4 + random.below(25));
     let near = |random: &mut Random, centre: i64, low: i64, high: i64| {
         coordinate(random, (centre - reach).max(low), (centre + reach).min(high))
     };
     [
-        near(random, reference[0], 0, 120 * one),
-        near(random, reference[1], -256 * one, 256 * one),
-        near(random, reference[2], -256 * one, 256 * one),
+        near(random, reference[0], 0, LIGHTEST),
+        near(random, reference[1], -SIDE, SIDE),
+        near(random, reference[2], -SIDE, SIDE),
     ]
 }
 
 /// DE, and how far it moves, in units of 2^-20.
 fn moved(formula: Formula, weights: [i128; 2], pair: [Colour; 2]) -> (f64, f64) {
-    let coarse = paper::sheet(paper::PLACES, formula, weights, pair[0], pair[1]).de;
-    let fine = paper::sheet(FINE, formula, weights, pair[0], pair[1]).de;
-    let scale = 1i128 << (FINE - paper::PLACES);
-    let one = paper::ONE as f64;
+    let coarse = sheet(PLACES, formula, weights, pair[0], pair[1]).de;
+    let fine = sheet(FINE, formula, weights, pair[0], pair[1]).de;
+    let scale = 1i128 << (FINE - PLACES);
+    let one = GRID_ONE as f64;
     (coarse as f64 / one, (fine - coarse * scale).abs() as f64 / scale as f64)
 }
 
@@ -84,8 +78,9 @@ fn text(at: [f64; 2], anchor: &str, words: &str) {
 }
 
 fn frame() {
-    println!("<rect x=\"{}\" y=\"{}\" width=\"{}\" height=\"{}\" fill=\"none\" stroke=\"#444\"/>", LEFT, TOP, WIDE, HIGH);
-    for (value, name) in [(0.001, "0.001"), (0.01, "0.01"), (0.1, "0.1"), (1.0, "1"), (10.0, "10"), (100.0, "100"), (1000.0, "1000")] {
+    println!("<rect x=\"{LEFT}\" y=\"{TOP}\" width=\"{WIDE}\" height=\"{HIGH}\" fill=\"none\" stroke=\"#444\"/>");
+    for value in [0.001, 0.01, 0.1, 1.0, 10.0, 100.0, 1000.0] {
+        let name = &value.to_string();
         println!("<path d=\"M{:.1} {}v{}\" stroke=\"#ddd\"/>", x(value), TOP, HIGH);
         text([x(value), TOP + HIGH + 18.0], "middle", name);
         println!("<path d=\"M{} {:.1}h{}\" stroke=\"#ddd\"/>", LEFT, y(value), WIDE);
@@ -97,13 +92,14 @@ fn frame() {
 
 fn lines() {
     // allowed: 0.002 up to DE = 10
-    println!("<path d=\"M{:.1} {:.1}H{:.1}\" stroke=\"#b00\" stroke-width=\"1.5\" fill=\"none\"/>", LEFT, y(2097.152), x(10.0));
-    text([LEFT + 8.0, y(2097.152) - 5.0], "start", "allowed up to DE = 10: 0.002");
+    let (end, high) = (x(10.0), y(2097.152));
+    println!("<path d=\"M{LEFT:.1} {high:.1}H{end:.1}\" stroke=\"#b00\" stroke-width=\"1.5\" fill=\"none\"/>");
+    text([LEFT + 8.0, high - 5.0], "start", "allowed up to DE = 10: 0.002");
     // proved: DE / 10000 + 579.06 units, at any DE
     let mut path = String::new();
     for step in 0..=200 {
         let de = X[0] * (X[1] / X[0]).powf(f64::from(step) / 200.0);
-        let units = de * paper::ONE as f64 / 10_000.0 + 579.0579;
+        let units = de * GRID_ONE as f64 / 10_000.0 + 579.0579;
         path.push_str(&format!("{}{:.1} {:.1}", if step == 0 { "M" } else { "L" }, x(de), y(units)));
     }
     println!("<path d=\"{}\" stroke=\"#060\" stroke-width=\"1.5\" fill=\"none\"/>", path);
@@ -127,32 +123,44 @@ fn runs(cells: &[bool], wide: usize) -> String {
     path
 }
 
+/// The cells that pairs of this formula hit, and the largest movement up to DE = 10.
+fn hits(random: &mut Random, formula: Formula, wide: usize, high: usize) -> (Vec<bool>, f64) {
+    let mut cells = vec![false; wide * high];
+    let mut largest: f64 = 0.0;
+    for _ in 0..PAIRS / 3 {
+        let weights = [0; 2].map(|_| i128::from(500 + random.below(9_501)));
+        let first = reference(random);
+        let second = specimen(random, first);
+        let (de, units) = moved(formula, weights, [first, second]);
+        if de <= 10.0 {
+            largest = largest.max(units);
+        }
+        if units > 0.0 && de > 0.0 {
+            let column = ((x(de) - LEFT) / CELL) as usize;
+            let row = ((y(units) - TOP) / CELL) as usize;
+            cells[row * wide + column] = true;
+        }
+    }
+    (cells, largest)
+}
+
 fn main() {
     let mut random = Random(20);
-    println!("<svg xmlns=\"http://www.w3.org/2000/svg\" width=\"760\" height=\"480\" font-family=\"sans-serif\" font-size=\"12\">");
+    println!(
+        "<svg xmlns=\"http://www.w3.org/2000/svg\" width=\"760\" height=\"480\" font-family=\"sans-serif\" \
+         font-size=\"12\">"
+    );
     println!("<rect width=\"760\" height=\"480\" fill=\"#fff\"/>");
     frame();
-    let kinds = [(Formula::Cmc, "CMC", "#335"), (Formula::Cie94, "CIE94", "#c70"), (Formula::Cielab, "CIELAB", "#09c")];
+    let kinds =
+        [(Formula::Cmc, "CMC", "#335"), (Formula::Cie94, "CIE94", "#c70"), (Formula::Cielab, "CIELAB", "#09c")];
+    let (wide, high) = ((WIDE / CELL) as usize + 1, (HIGH / CELL) as usize + 1);
     for (place, (formula, name, colour)) in kinds.into_iter().enumerate() {
-        let (wide, high) = ((WIDE / CELL) as usize, (HIGH / CELL) as usize);
-        let mut cells = vec![false; (wide + 1) * (high + 1)];
-        let mut largest: f64 = 0.0;
-        for _ in 0..PAIRS / 3 {
-            let weights = [i128::from(500 + random.below(9_501)), i128::from(500 + random.below(9_501))];
-            let first = reference(&mut random);
-            let second = specimen(&mut random, first);
-            let (de, units) = moved(formula, weights, [first, second]);
-            if de <= 10.0 {
-                largest = largest.max(units);
-            }
-            if units > 0.0 && de > 0.0 {
-                let column = ((x(de) - LEFT) / CELL) as usize;
-                let row = ((y(units) - TOP) / CELL) as usize;
-                cells[row * (wide + 1) + column] = true;
-            }
-        }
-        println!("<path d=\"{}\" fill=\"{}\" fill-opacity=\"0.45\"/>", runs(&cells, wide + 1), colour);
-        text([LEFT + WIDE - 235.0, TOP + HIGH - 50.0 + 16.0 * place as f64], "start", &format!("<tspan fill=\"{}\">&#9632;</tspan> {}: at most {:.1} up to DE = 10", colour, name, largest));
+        let (cells, largest) = hits(&mut random, formula, wide, high);
+        println!("<path d=\"{}\" fill=\"{colour}\" fill-opacity=\"0.45\"/>", runs(&cells, wide));
+        let at = [LEFT + WIDE - 235.0, TOP + HIGH - 50.0 + 16.0 * place as f64];
+        let mark = format!("<tspan fill=\"{colour}\">&#9632;</tspan>");
+        text(at, "start", &format!("{mark} {name}: at most {largest:.1} up to DE = 10"));
     }
     lines();
     println!("</svg>");

@@ -1,16 +1,17 @@
-//! Prints the two tables of docs/MANUAL.md, part 3: a CMC pair with every figure of the step sheet, and X, Y, Z to L*, a*, b*.
-//! The figures are those of the independent sheet of tests/paper.rs. What it does not hand out is worked out here: Q, W, F, T, P
-//! and G, which have to give its SH.
+//! Prints the two tables of docs/MANUAL.md, part 3: a CMC pair with every figure of the step sheet, and X, Y, Z to L*,
+//! a*, b*. The figures are those of the independent sheet of tests/paper.
 //!
-//! Usage: rustc --edition 2021 -O -o target/worked_pair tools/worked_pair.rs && target/worked_pair
+//! Usage: tools/worked_pair    (which builds it)
 
-#[path = "../tests/paper.rs"]
+#[path = "../tests/paper/mod.rs"]
 mod paper;
-#[path = "../tests/text.rs"]
-mod text;
 
-use paper::{Colour, Formula, PLACES};
-use text::Standard;
+use paper::conversion::{above_cut, f, grid_colour, Colour, WHITES};
+use paper::readings::GRID_ONE;
+use paper::settings::Formula;
+use paper::sheet::{Sheet, PLACES};
+use paper::standard::Standard;
+use paper::{cmc, report};
 
 /// In quarters of one: exact in decimals and on the grid.
 const REFERENCE: [i64; 3] = [210, 41, -28];
@@ -23,7 +24,7 @@ const TOLERANCE: u64 = 1_000;
 /// Document 000, Table 2, the reference of pair 9, in millionths: X and Y lie below the cut, Z above it. White D65/10.
 const XYZ: [u128; 3] = [704_000, 750_000, 972_000];
 
-const ONE: i128 = 1 << 20;
+const ONE: i128 = GRID_ONE as i128;
 
 /// Units of 2^-places to seven decimals, the nearest: these tell each unit of 2^-20 from the next.
 fn rounded(units: i128, places: u32) -> String {
@@ -36,7 +37,11 @@ fn rounded(units: i128, places: u32) -> String {
 fn exact(units: i128, places: u32) -> String {
     let text = rounded(units, places);
     let text = text.trim_end_matches('0').trim_end_matches('.');
-    if units < 0 { format!("({text})") } else { text.to_string() }
+    if units < 0 {
+        format!("({text})")
+    } else {
+        text.to_string()
+    }
 }
 
 /// One line of a table, in the unit 2^-places.
@@ -46,83 +51,90 @@ fn row(line: u32, name: &str, how: &str, units: i128, places: u32) {
 }
 
 fn colour(quarters: [i64; 3]) -> Colour {
-    quarters.map(|count| count * (ONE as i64 / 4))
+    quarters.map(|count| count * (GRID_ONE / 4))
+}
+
+/// A colour as whole units, and each of its coordinates as a decimal.
+struct Shown {
+    units: [i128; 3],
+    text: [String; 3],
+}
+
+impl Shown {
+    fn of(colour: Colour) -> Shown {
+        let units = colour.map(i128::from);
+        Shown { units, text: units.map(|coordinate| exact(coordinate, PLACES)) }
+    }
 }
 
 fn pair() {
-    let (reference, test) = (colour(REFERENCE), colour(TEST));
-    let sheet = paper::sheet(PLACES, Formula::Cmc, [L.into(), C.into()], reference, test);
-    let axes = sheet.semi_axes;
-    let ([lr, ar, br], [lt, at, bt]) = (reference.map(i128::from), test.map(i128::from));
-    let [x_lr, x_ar, x_br] = [lr, ar, br].map(|units| exact(units, PLACES));
-    let [x_lt, x_at, x_bt] = [lt, at, bt].map(|units| exact(units, PLACES));
+    let standard =
+        Standard { formula: Formula::Cmc, white: 1, l: L, c: C, tolerance: TOLERANCE, colour: colour(REFERENCE) };
+    let test = colour(TEST);
+    let sheet = standard.sheet(test);
+    let (r, t) = (Shown::of(standard.colour), Shown::of(test));
     println!("| line | quantity | how | as a decimal | in units |\n|---|---|---|---|---|");
-
-    let how = format!("√({x_ar}² + {x_br}²) = √{}", exact(ar * ar + br * br, 40));
-    row(1, "C of R", &how, sheet.reference_chroma, PLACES);
-    let how = format!("√({x_at}² + {x_bt}²) = √{}", exact(at * at + bt * bt, 40));
-    row(1, "C of T", &how, sheet.test_chroma, PLACES);
-    let (da, db) = (at - ar, bt - br);
-    let how = format!("{}² + {}², exact", exact(da, PLACES), exact(db, PLACES));
-    row(1, "D²", &how, da * da + db * db, 40);
-    row(1, "ΔL", &format!("{x_lt} - {x_lr}"), sheet.delta_l, PLACES);
-    row(1, "ΔC", "C of T - C of R", sheet.delta_c, PLACES);
-
-    let cross = ar * bt - at * br;
-    row(2, "cross", &format!("{x_ar}·{x_bt} - {x_at}·{x_br}, exact"), cross, 40);
-    row(2, "dot", &format!("{x_ar}·{x_at} + {x_br}·{x_bt}, exact"), ar * at + br * bt, 40);
-    let sign = if cross < 0 { "minus: the cross is negative" } else { "plus: the cross is not negative" };
-    row(2, "ΔH", &format!("√(D² - ΔC²), {sign}"), sheet.delta_h, PLACES);
-
-    row(3, "SL", &format!("0.040975·{x_lr} / (1 + 0.01765·{x_lr})"), axes.sl, PLACES);
-    row(4, "SC", "0.0638·C / (1 + 0.0131·C) + 0.638, C of R", axes.sc, PLACES);
-
-    let q = (ar * ar + br * br) >> 27;
-    let w = paper::square_root((q * q + (1900 << 26)) as u128) as i128;
-    let f = q * ONE / w;
-    row(5, "Q", &format!("{x_ar}² + {x_br}²"), q, 13);
-    row(5, "W", "√(Q² + 1900)", w, 13);
-    row(5, "F", "Q / W", f, PLACES);
-
-    let sums = [
-        ("-0.27563736", "0.96126170", -27_563_736 * ar - 96_126_170 * br),
-        ("-0.25881905", "0.96592583", -25_881_905 * ar - 96_592_583 * br),
-    ];
-    for (a_part, b_part, sum) in sums {
-        let value = sum as f64 / 1e8 / ONE as f64;
-        println!("| 6 | form | {a_part}·{x_ar} - {b_part}·{x_br}, exact | {value:.10} | |");
-    }
-    let second = sums.iter().any(|(_, _, sum)| *sum > 0);
-    assert_eq!(second, paper::second_form(reference));
-    let c = sheet.reference_chroma;
-    // T over 10^9 C
-    let (how, top) = if second {
-        let how = format!("second: 0.56 + 0.2·∣0.97814760·{x_ar} + 0.20791169·{x_br}∣ / C");
-        (how, 560_000_000 * c + 2 * (97_814_760 * ar + 20_791_169 * br).abs())
-    } else {
-        let how = format!("first: 0.36 + 0.4·∣0.81915204·{x_ar} - 0.57357644·{x_br}∣ / C");
-        (how, 360_000_000 * c + 4 * (81_915_204 * ar - 57_357_644 * br).abs())
-    };
-    let t = top * ONE / (1_000_000_000 * c);
-    row(6, "T", &how, t, PLACES);
-
-    let p = f * t / ONE;
-    let g = p + ONE - f;
-    assert_eq!(axes.sh, axes.sc * g / ONE);
-    row(7, "P", "F·T", p, PLACES);
-    row(7, "G", "P + 1 - F", g, PLACES);
-    row(7, "SH", "SC·G", axes.sh, PLACES);
-
-    row(8, "DL", &format!("ΔL / ({}·SL)", text::factor(L)), sheet.dl, PLACES);
-    row(8, "DC", &format!("ΔC / ({}·SC)", text::factor(C)), sheet.dc, PLACES);
+    line_1(&sheet, &r, &t);
+    line_2(&sheet, &r, &t);
+    let l = &r.text[0];
+    row(3, "SL", &format!("0.040975·{l} / (1 + 0.01765·{l})"), sheet.semi_axes.sl, PLACES);
+    row(4, "SC", "0.0638·C / (1 + 0.0131·C) + 0.638, C of R", sheet.semi_axes.sc, PLACES);
+    lines_5_to_7(&sheet, standard.colour, &r);
+    row(8, "DL", &format!("ΔL / ({}·SL)", report::factor(L)), sheet.dl, PLACES);
+    row(8, "DC", &format!("ΔC / ({}·SC)", report::factor(C)), sheet.dc, PLACES);
     row(8, "DH", "ΔH / SH", sheet.dh, PLACES);
     row(8, "DE", "√(DL² + DC² + DH²)", sheet.de, PLACES);
 
     let off = sheet.de - i128::from(TOLERANCE) * ONE / 1_000;
     println!("\nDE less the tolerance: {}, {off} units", rounded(off, PLACES));
     println!("BS 6923's formula in floating point: DE = {:.7}\n", in_floating_point());
-    let standard = Standard { formula: Formula::Cmc, white: 1, l: L, c: C, tolerance: TOLERANCE, colour: reference };
-    print!("{}", String::from_utf8(text::report(&standard, test)).expect("a report is ASCII"));
+    print!("{}", String::from_utf8(report::report(&standard, test)).expect("a report is ASCII"));
+}
+
+fn line_1(sheet: &Sheet, r: &Shown, t: &Shown) {
+    let ([lr, ar, br], [lt, at, bt]) = (r.units, t.units);
+    let how = format!("√({}² + {}²) = √{}", r.text[1], r.text[2], exact(ar * ar + br * br, 40));
+    row(1, "C of R", &how, sheet.reference_chroma, PLACES);
+    let how = format!("√({}² + {}²) = √{}", t.text[1], t.text[2], exact(at * at + bt * bt, 40));
+    row(1, "C of T", &how, sheet.test_chroma, PLACES);
+    let (da, db) = (at - ar, bt - br);
+    let how = format!("{}² + {}², exact", exact(da, PLACES), exact(db, PLACES));
+    row(1, "D²", &how, da * da + db * db, 40);
+    assert_eq!(sheet.delta_l, lt - lr);
+    row(1, "ΔL", &format!("{} - {}", t.text[0], r.text[0]), sheet.delta_l, PLACES);
+    row(1, "ΔC", "C of T - C of R", sheet.delta_c, PLACES);
+}
+
+fn line_2(sheet: &Sheet, r: &Shown, t: &Shown) {
+    let ([_, ar, br], [_, at, bt]) = (r.units, t.units);
+    let ([_, x_ar, x_br], [_, x_at, x_bt]) = (&r.text, &t.text);
+    let cross = ar * bt - at * br;
+    row(2, "cross", &format!("{x_ar}·{x_bt} - {x_at}·{x_br}, exact"), cross, 40);
+    row(2, "dot", &format!("{x_ar}·{x_at} + {x_br}·{x_bt}, exact"), ar * at + br * bt, 40);
+    let sign = if cross < 0 { "minus: the cross is negative" } else { "plus: the cross is not negative" };
+    row(2, "ΔH", &format!("√(D² - ΔC²), {sign}"), sheet.delta_h, PLACES);
+}
+
+fn lines_5_to_7(sheet: &Sheet, reference: Colour, r: &Shown) {
+    let [_, a, b] = &r.text;
+    let hue = cmc::hue(PLACES, reference).expect("the reference is not neutral");
+    row(5, "Q", &format!("{a}² + {b}²"), hue.q, PLACES - 7);
+    row(5, "W", "√(Q² + 1900)", hue.w, PLACES - 7);
+    row(5, "F", "Q / W", hue.f, PLACES);
+    let factors = [("-0.27563736", "0.96126170"), ("-0.25881905", "0.96592583")];
+    for ((a_part, b_part), sum) in factors.into_iter().zip(cmc::form_sums(reference)) {
+        let value = sum as f64 / 1e8 / ONE as f64;
+        println!("| 6 | form | {a_part}·{a} - {b_part}·{b}, exact | {value:.10} | |");
+    }
+    let how = if cmc::second_form(reference) {
+        format!("second: 0.56 + 0.2·∣0.97814760·{a} + 0.20791169·{b}∣ / C")
+    } else {
+        format!("first: 0.36 + 0.4·∣0.81915204·{a} - 0.57357644·{b}∣ / C")
+    };
+    row(6, "T", &how, hue.t, PLACES);
+    row(7, "P", "F·T", hue.p, PLACES);
+    row(7, "G", "P + 1 - F", hue.g, PLACES);
+    row(7, "SH", "SC·G", sheet.semi_axes.sh, PLACES);
 }
 
 /// As BS 6923 writes it, with its angle, and nothing rounded down.
@@ -147,20 +159,20 @@ fn in_floating_point() -> f64 {
 }
 
 fn conversion() {
-    let white = paper::WHITES[0];
+    let white = WHITES[0];
     println!("\n| quantity | how | as a decimal | in units |\n|---|---|---|---|");
     for (place, name) in ["X", "Y", "Z"].into_iter().enumerate() {
         let [x, xn] = [XYZ[place], white[place]].map(|millionths| millionths as f64 / 1e6);
-        let (above, how) = match paper::above_cut(XYZ[place], white[place]) {
+        let (above, how) = match above_cut(XYZ[place], white[place]) {
             true => ("above", "the cube root of q"),
             false => ("not above", "7.787·q + 16/116"),
         };
         println!("| q of {name} | {x} / {xn}, exact: {above} 0.008856 | {:.10} | |", x / xn);
-        let f = paper::f(XYZ[place], white[place]).into();
+        let f: i128 = f(XYZ[place], white[place]).into();
         println!("| f of {name} | {how} | {} | {f} |", rounded(f, PLACES));
     }
-    let [l, a, b] = paper::grid_colour(XYZ, white).expect("a* and b* are small");
-    let l_how = if paper::above_cut(XYZ[1], white[1]) { "116·(f of Y) - 16" } else { "903.3·(q of Y)" };
+    let [l, a, b] = grid_colour(XYZ, white).expect("a* and b* are small");
+    let l_how = if above_cut(XYZ[1], white[1]) { "116·(f of Y) - 16" } else { "903.3·(q of Y)" };
     let rows = [("L\\*", l_how, l), ("a\\*", "500·(f of X - f of Y)", a), ("b\\*", "200·(f of Y - f of Z)", b)];
     for (name, how, units) in rows {
         println!("| {name} | {how} | {} | {units} |", rounded(units.into(), PLACES));
@@ -173,8 +185,7 @@ fn conversion() {
 }
 
 fn main() {
-    paper::paper_figures();
-    text::text_figures();
+    paper::check();
     pair();
     conversion();
 }

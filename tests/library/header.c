@@ -1,0 +1,61 @@
+/* include/shade.h by itself, in C and in C++: nothing has to come before it, it may come twice, its calls have these
+ * types and its constants these values. This is compiled, not run. */
+#include "shade.h"
+#include "shade.h"
+
+typedef uint32_t load(uint8_t *, size_t, uint32_t, uint32_t, uint32_t, uint32_t, uint32_t, double, double, double);
+typedef uint32_t judge(const uint8_t *, size_t, double, double, double, uint8_t *, size_t, size_t);
+typedef uint32_t ticket(const uint8_t *, size_t, uint8_t *, size_t, size_t);
+
+/* A second declaration is refused if it does not agree with the first, in C++ also about C's names. */
+#ifdef __cplusplus
+extern "C" {
+#endif
+extern load shade_load_xyz, shade_load_lab;
+extern judge shade_judge_xyz, shade_judge_lab;
+extern ticket shade_ticket;
+#ifdef __cplusplus
+}
+#endif
+
+/* If the constant is another, this array has the length -1, and is refused. */
+#define IS(constant, number) extern char constant##_is_##number[(constant) == (number) ? 1 : -1]
+
+/* SCOPE 8.1 and 4: formulas and whites */
+IS(SHADE_CIELAB, 1);
+IS(SHADE_CIE94, 2);
+IS(SHADE_CMC, 3);
+IS(SHADE_D65_10, 1);
+IS(SHADE_D65_2, 2);
+IS(SHADE_C_10, 3);
+IS(SHADE_C_2, 4);
+
+/* SCOPE 3.3 */
+IS(SHADE_FACTOR_LEAST, 500);
+IS(SHADE_FACTOR_MOST, 10000);
+IS(SHADE_TOLERANCE_LEAST, 100);
+IS(SHADE_TOLERANCE_MOST, 10000);
+
+/* SCOPE 8.1 */
+IS(SHADE_REFUSED_FORMULA, 1);
+IS(SHADE_REFUSED_WHITE, 2);
+IS(SHADE_REFUSED_FACTOR, 3);
+IS(SHADE_REFUSED_TOLERANCE, 4);
+IS(SHADE_REFUSED_NOT_A_NUMBER, 5);
+IS(SHADE_REFUSED_OUT_OF_RANGE, 6);
+IS(SHADE_REFUSED_TICKET, 7);
+IS(SHADE_REFUSED_BEYOND_256, 8);
+IS(SHADE_REFUSED_NO_STANDARD, 9);
+IS(SHADE_REFUSED_LENGTH, 10);
+
+/* SCOPE 1.4, 10.2 and 9.1 */
+IS(SHADE_STATION_BYTES, 20);
+IS(SHADE_REPORT_BYTES, 161);
+IS(SHADE_TICKET_BYTES, 4096);
+
+/* The version is a number that an #if can take. */
+IS(SHADE_VERSION_MAJOR, 1);
+IS(SHADE_VERSION_MINOR, 0);
+#if SHADE_VERSION != SHADE_VERSION_MAJOR * 1000 + SHADE_VERSION_MINOR || SHADE_VERSION < 1000
+#error "SHADE_VERSION is not MAJOR * 1000 + MINOR"
+#endif

@@ -1,0 +1,80 @@
+/* The whole case of SCOPE 11.1 through libshade.a: the ticket's report from a column of a lent room, byte for byte,
+ * every other byte kept; the same pair loaded and judged; and refused calls, which write nothing.
+ *
+ * Usage: whole
+ *
+ * No headers but shade.h: this is an x86-64 program wherever it is compiled. */
+#include "shade.h"
+
+int printf(const char *, ...);
+size_t strlen(const char *);
+
+enum { ROOM = 200, COLUMN = 7, KEPT = 0xa5 };
+
+static const char TICKET[] =
+    "formula=CMC\nwhite=D65/10\nl=1.000\nc=1.000\ntol=1.000\nspace=LAB\nref=50 0 0\ntest=51 0 0\n";
+static const char REPORT[] =
+    "formula=CMC\nwhite=D65/10\nl=1.000\nc=1.000\nDE=0.9188\nDL=0.9188\nDC=withheld\nDH=withheld\n"
+    "lightness=lighter\nchroma=withheld\nhue=withheld\nverdict=pass\n";
+
+static uint8_t room[ROOM];
+static int differences;
+
+static void clear(void)
+{
+    for (size_t at = 0; at < ROOM; at++)
+        room[at] = KEPT;
+}
+
+/* Counts a difference if the call gave another number, or left another room: the report from COLUMN on, or nothing. */
+static void expect(const char *call, uint32_t number, uint32_t wanted)
+{
+    size_t length = wanted == 0 ? strlen(REPORT) : 0;
+    int same = number == wanted;
+    for (size_t at = 0; at < ROOM; at++) {
+        int inside = at >= COLUMN && at < COLUMN + length;
+        same = same && room[at] == (inside ? (uint8_t)REPORT[at - COLUMN] : KEPT);
+    }
+    if (!same) {
+        printf("differs: %s\n", call);
+        differences++;
+    }
+    clear();
+}
+
+/* CMC(1:1), tolerance 1 */
+static uint32_t load(uint8_t *station, size_t length, uint32_t formula)
+{
+    return shade_load_lab(station, length, formula, SHADE_D65_10, 1000, 1000, 1000, 50, 0, 0);
+}
+
+static uint32_t judge(const uint8_t *station, double lightness)
+{
+    return shade_judge_lab(station, SHADE_STATION_BYTES, lightness, 0, 0, room, ROOM, COLUMN);
+}
+
+static uint32_t ticket(size_t length, size_t room_length)
+{
+    return shade_ticket((const uint8_t *)TICKET, length, room, room_length, COLUMN);
+}
+
+int main(void)
+{
+    uint8_t station[SHADE_STATION_BYTES] = {0};
+    size_t length = strlen(TICKET), needed = COLUMN + strlen(REPORT);
+
+    clear();
+    expect("ticket", ticket(length, ROOM), 0);
+    expect("ticket without its last LF", ticket(length - 1, ROOM), SHADE_REFUSED_TICKET);
+    expect("a room too short by a byte", ticket(length, needed - 1), SHADE_REFUSED_LENGTH);
+    expect("a room that just holds it", ticket(length, needed), 0);
+    expect("judge before a load", judge(station, 51), SHADE_REFUSED_NO_STANDARD);
+    expect("load into another length", load(station, sizeof station - 1, SHADE_CMC), SHADE_REFUSED_LENGTH);
+    expect("load of formula 4", load(station, sizeof station, 4), SHADE_REFUSED_FORMULA);
+    if (load(station, sizeof station, SHADE_CMC) != 0)
+        differences++;
+    expect("judge", judge(station, 51), 0);
+    expect("judge out of range", judge(station, 121), SHADE_REFUSED_OUT_OF_RANGE);
+    printf("whole: 10 calls, %d differences\n", differences);
+    return differences != 0;
+}

@@ -1,0 +1,171 @@
+//! The whole case of SCOPE 11.1, and cases of the ticket and the report that need no working out.
+
+use super::program::{judge_ticket, printed};
+use super::report::{answer, figure};
+
+/// The ticket of SCOPE 11.1.
+pub const WHOLE_CASE: [&str; 8] = [
+    "formula=CMC",
+    "white=D65/10",
+    "l=1.000",
+    "c=1.000",
+    "tol=1.000",
+    "space=LAB",
+    "ref=50 0 0",
+    "test=51 0 0",
+];
+
+/// Its report.
+const WHOLE_REPORT: &str = "\
+formula=CMC
+white=D65/10
+l=1.000
+c=1.000
+DE=0.9188
+DL=0.9188
+DC=withheld
+DH=withheld
+lightness=lighter
+chroma=withheld
+hue=withheld
+verdict=pass
+";
+
+/// The lines, each with its LF.
+pub fn text_of(lines: &[&str]) -> Vec<u8> {
+    lines
+        .iter()
+        .map(|line| format!("{line}\n"))
+        .collect::<String>()
+        .into_bytes()
+}
+
+pub fn check() {
+    right_texts();
+    shown_figures();
+    rooms();
+}
+
+/// The whole case with some of its lines, parted by |, in the places that their keys name.
+pub fn with(edits: &str) -> Vec<u8> {
+    let key = |line: &str| line.split('=').next().map(str::to_string);
+    let mut lines = WHOLE_CASE;
+    for edit in edits.split('|') {
+        let place = lines.iter().position(|line| key(line) == key(edit));
+        lines[place.expect("a key of the whole case")] = edit;
+    }
+    text_of(&lines)
+}
+
+pub fn prints(text: &[u8], wanted: &str) {
+    let (got, shown) = (printed(text), String::from_utf8_lossy(text));
+    assert_eq!(String::from_utf8_lossy(&got), wanted, "for {shown:?}");
+}
+
+fn ends_with(text: &[u8], end: &str) -> bool {
+    printed(text).ends_with(end.as_bytes())
+}
+
+/// The whole case without its lines from one to another, counted from 1.
+pub fn without(from: usize, to: usize) -> Vec<u8> {
+    text_of(&[&WHOLE_CASE[..from - 1], &WHOLE_CASE[to..]].concat())
+}
+
+/// Tickets that are right, each with its report or the end of it.
+fn right_texts() {
+    prints(&text_of(&WHOLE_CASE), WHOLE_REPORT);
+    same_ticket_in_other_words();
+    verdicts_and_withheld();
+    whole_reports();
+    // SCOPE 3.3 and 3.4: the ends are in range
+    for edits in [
+        "l=0.5|c=10|tol=0.1|ref=120 256 -256",
+        "l=10.000|c=0.500|tol=10|test=0 -256 256",
+        "space=XYZ|ref=150 150 150|test=0 0 0",
+    ] {
+        assert!(judge_ticket(&with(edits)).is_ok(), "{edits}");
+    }
+}
+
+fn same_ticket_in_other_words() {
+    prints(&without(3, 4), WHOLE_REPORT);
+    for edits in [
+        "l=1|c=01.0|tol=01.00|ref=050.000000 -0 -000.0",
+        "l=01.00|c=1.0|tol=1|test=51.0 0.000 -0.000000",
+    ] {
+        prints(&with(edits), WHOLE_REPORT);
+    }
+}
+
+fn verdicts_and_withheld() {
+    // SCOPE 12.1, case 13
+    for (tolerance, verdict) in [("0.916", "fail"), ("0.920", "near"), ("0.921", "pass")] {
+        let report = WHOLE_REPORT.replace("pass", verdict);
+        prints(&with(&format!("tol={tolerance}")), &report);
+    }
+    // SCOPE 6.4: DE is 1.125 exactly, and both ends of what is near count
+    for (tolerance, verdict) in [("1.122", "fail"), ("1.123", "near"), ("1.127", "near")] {
+        let edits = format!("formula=CIELAB|tol={tolerance}|test=51.125 0 0");
+        assert!(ends_with(&with(&edits), &format!("verdict={verdict}\n")));
+    }
+    // SCOPE 7.3: a² + b² is 16, and hardly more
+    for (reference, hue) in [("0 -4", "withheld"), ("4 0.001", "equal")] {
+        let edits = format!("ref=50 {reference}|test=50 {reference}");
+        let end = format!("hue={hue}\nverdict=pass\n");
+        assert!(ends_with(&with(&edits), &end));
+    }
+}
+
+fn whole_reports() {
+    // SCOPE 12.1, case 10; l and c are printed as given under CIELAB too, and nothing is withheld
+    prints(
+        &with("formula=CIELAB|l=02.5|c=10|test=50 3 4"),
+        "formula=CIELAB\nwhite=D65/10\nl=2.500\nc=10.000\nDE=5.0000\nDL=0.0000\nDC=5.0000\n\
+         DH=0.0000\nlightness=equal\nchroma=more\nhue=equal\nverdict=fail\n",
+    );
+    // SCOPE 12.1, case 12: plus, so anticlockwise from between redder and yellower
+    prints(
+        &with("formula=CIELAB|white=C/2|ref=50 3 4|test=50 -3 -4"),
+        "formula=CIELAB\nwhite=C/2\nl=1.000\nc=1.000\nDE=10.0000\nDL=0.0000\nDC=0.0000\n\
+         DH=10.0000\nlightness=equal\nchroma=equal\nhue=yellower(greener)\nverdict=fail\n",
+    );
+    // SCOPE 12.1, cases 1 and 2: from the white to black
+    prints(
+        &with("formula=CIE94|space=XYZ|ref=94.811 100 107.304|test=0 -0 000"),
+        "formula=CIE94\nwhite=D65/10\nl=1.000\nc=1.000\nDE=100.0000\nDL=-100.0000\nDC=0.0000\n\
+         DH=0.0000\nlightness=darker\nchroma=equal\nhue=equal\nverdict=fail\n",
+    );
+}
+
+/// 105 units are the first that show a digit: 104.8576 units are 0.0001.
+fn shown_figures() {
+    for (units, text) in [
+        (0, "0.0000"),
+        (104, "0.0000"),
+        (-104, "0.0000"),
+        (105, "0.0001"),
+        (-105, "-0.0001"),
+        ((1 << 20) - 1, "0.9999"),
+        (1 - (2 << 20), "-1.9999"),
+        (-12 << 20, "-12.0000"),
+    ] {
+        assert_eq!(figure(units), text);
+    }
+}
+
+/// SCOPE 10.2, with a report of twelve bytes: 10 is the last in the order.
+fn rooms() {
+    let report = Ok(vec![0; 12]);
+    for (number, length, column) in [
+        (0, 12, 0),
+        (10, 11, 0),
+        (0, 20, 8),
+        (10, 20, 9),
+        (10, 20, 20),
+        (10, 20, 21),
+        (10, 20, u64::MAX),
+    ] {
+        assert_eq!(answer(&report, length, column), number);
+        assert_eq!(answer(&Err(8), length, column), 8);
+    }
+}

@@ -1,0 +1,47 @@
+//! Tickets whose text is right.
+
+use crate::readings::{ONE, SIDE};
+use crate::records::Tickets;
+
+pub fn right(tickets: &mut Tickets) {
+    let mut draft = tickets.random.ticket();
+    if tickets.random.one_in(12) {
+        let wrong = 1 << tickets.random.below(5);
+        tickets.random.put_out_of_range(&mut draft, wrong);
+    }
+    tickets.draft(&draft);
+}
+
+/// Every mixture of what is in range and what is not, in either space, with 8 among it.
+pub fn refusals(tickets: &mut Tickets) {
+    for wrong in 0..32 {
+        for step in 0..600 {
+            let random = &mut tickets.random;
+            let mut draft = random.ticket();
+            if step % 2 == 0 {
+                draft.space = 0;
+                draft.reference = random.stark();
+                draft.test = random.stark();
+            }
+            random.put_out_of_range(&mut draft, wrong);
+            tickets.draft(&draft);
+        }
+    }
+}
+
+/// DE at the ends of what is near. Under CIELAB it is there exactly where it is a multiple of 1/8.
+pub fn tolerance_ends(tickets: &mut Tickets) {
+    for _ in 0..3_000 {
+        let random = &mut tickets.random;
+        let mut draft = random.ticket();
+        let eighths = 1 + random.below(79) as i64;
+        let across = [random.within(SIDE), random.within(SIDE)];
+        let l = random.below(20) as i64 * ONE / 8;
+        draft.formula = 0;
+        draft.space = 1;
+        draft.reference = [l, across[0], across[1]];
+        draft.test = [l + eighths * ONE / 8, across[0], across[1]];
+        draft.tolerance = (eighths * 125 + random.pick(&[-3, -2, 2, 3])).max(100) as u64;
+        tickets.draft(&draft);
+    }
+}
