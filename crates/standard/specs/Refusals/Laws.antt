@@ -1,5 +1,5 @@
 -- What callers use of the order: the first of a list of numbers, by parts of the list; that a lent slice's fault comes
--- last; and that a number is given exactly where its place has it and no earlier place has one. Assumes nothing.
+-- last; and that what holds of 0 and of each fault's number holds of the number given. Assumes nothing.
 use mathlib.Core.Path.{_≡_, refl, sym, ap, _∙_}
 use mathlib.Core.Bool.{Bool, true, false, cond}
 use mathlib.Core.List.{List, [], _∷_, _++_, map}
@@ -73,39 +73,7 @@ refusal-room fs n none =
     firstOf-append others (n ∷ []) ∙ ap (first (firstOf others)) (first-zero n)
     ∙ ap (λ (m : ℕ). first m n) (sym without)
 
--- ---- what a number means
-
--- p is the first of the places at which something stands
-pub data FirstAt (fs : List Fault) (p : Place) : List Place → Type 0 where
-  here : {ps : List Place} → (numberAt fs p ≡ 0 → ⊥) → FirstAt fs p (p ∷ ps)
-  later : {q : Place} {ps : List Place} → numberAt fs q ≡ 0 → FirstAt fs p ps → FirstAt fs p (q ∷ ps)
-
--- A NUMBER IS GIVEN EXACTLY WHERE ITS PLACE HAS IT AND NO EARLIER PLACE HAS ONE
-given :
-    (fs : List Fault) {p : Place} {ps : List Place} → FirstAt fs p ps → firstOf (map (numberAt fs) ps) ≡ numberAt fs p
-unfolding firstOf
-given fs (here h) = first-some _ h
-given fs (later z f) = rw z (given fs f)
-
-pub refusal-given : (fs : List Fault) {p : Place} → FirstAt fs p order → refusal fs ≡ numberAt fs p
-unfolding refusal
-refusal-given fs f = given fs f
-
-first-at :
-    (fs : List Fault) (ps : List Place) → (firstOf (map (numberAt fs) ps) ≡ 0 → ⊥) → (p : Place) × FirstAt fs p ps
-unfolding firstOf
-first-at fs [] h = absurd (h refl)
-first-at fs (p ∷ ps) h = go (eqb (numberAt fs p) 0) refl h (first-at fs ps)
-  where
-    go :
-        (b : Bool) → eqb (numberAt fs p) 0 ≡ b → (cond b (firstOf (map (numberAt fs) ps)) (numberAt fs p) ≡ 0 → ⊥) →
-        ((firstOf (map (numberAt fs) ps) ≡ 0 → ⊥) → (q : Place) × FirstAt fs q ps) → (q : Place) × FirstAt fs q (p ∷ ps)
-    go true z some rest = let (q, f) = rest some in (q, later (eqb-true _ 0 z) f)
-    go false z some rest = (p, here (eqb-false _ 0 z))
-
-pub refusal-first : (fs : List Fault) → (refusal fs ≡ 0 → ⊥) → (p : Place) × FirstAt fs p order
-unfolding refusal
-refusal-first fs h = first-at fs order h
+-- ---- what every number is
 
 -- what holds of 0 and of every number of the list holds of the number that is given
 pub data Each (Q : ℕ → Type 0) : List Fault → Type 0 where
