@@ -1,4 +1,4 @@
-# Usage: . tests/shared/host.sh    (in the repository's folder)
+# Usage: . tools/host.sh    (in the repository's folder)
 #     host_library NAME...                    proves libraries and makes target/staticlib/libNAME.a
 #     host_build PROGRAM SOURCE.c WORD...     compiles SOURCE.c and links it with such archives; the words may also be
 #                                             flags -I, -L and -l, as pkg-config gives them
