@@ -98,29 +98,25 @@ measured D65Ten x y z =
     record {
       X = against _ x (omega arith) (omega arith);
       Y = against _ y (omega arith) (omega arith);
-      Z =
-          against _ z (omega arith) (omega arith);
+      Z = against _ z (omega arith) (omega arith);
     }
 measured D65Two x y z =
     record {
       X = against _ x (omega arith) (omega arith);
       Y = against _ y (omega arith) (omega arith);
-      Z =
-          against _ z (omega arith) (omega arith);
+      Z = against _ z (omega arith) (omega arith);
     }
 measured CTen x y z =
     record {
       X = against _ x (omega arith) (omega arith);
       Y = against _ y (omega arith) (omega arith);
-      Z =
-          against _ z (omega arith) (omega arith);
+      Z = against _ z (omega arith) (omega arith);
     }
 measured CTwo x y z =
     record {
       X = against _ x (omega arith) (omega arith);
       Y = against _ y (omega arith) (omega arith);
-      Z =
-          against _ z (omega arith) (omega arith);
+      Z = against _ z (omega arith) (omega arith);
     }
 
 -- ---- a converted colour: its three ways out

@@ -97,8 +97,7 @@ settings-only formula white l c tolerance {s} = go (formulaNumbered formula) ref
           white = white-number white hw;
           l = refl;
           c = refl;
-          tolerance =
-              refl;
+          tolerance = refl;
         })
     go (F.Is f) hf W.Unknown hw h = let no : _≡_ {A = ℕ} 0 1 = cc in absurd (omega arith)
     go F.Unknown hf w hw h = let no : _≡_ {A = ℕ} 0 1 = cc in absurd (omega arith)

@@ -34,8 +34,7 @@ squares-requires c κs =
     rw (Δa (c .before), Δb c)
     (record {
       first = omega (arith, abs-sub-le (s .args .at) (s .args .ar));
-      second =
-          omega (arith, abs-sub-le (s .args .bt) (s .args .br));
+      second = omega (arith, abs-sub-le (s .args .bt) (s .args .br));
     })
 
 returns : tie.Need-returns

@@ -17,8 +17,7 @@ past-the-end c =
     let a = c .before .before .args in
     record {
       number-is = sym (write-number-ten _ _ (a .j) (omega arith));
-      room-is =
-          sym (write-room-kept _ _ (a .j) (omega arith));
+      room-is = sym (write-room-kept _ _ (a .j) (omega arith));
     }
 
 too-short : tie.Need-returns-2
@@ -27,8 +26,7 @@ too-short c =
     let a = at-length .before .before .before .args in
     record {
       number-is = sym (write-number-ten _ _ (a .j) (omega arith));
-      room-is =
-          sym (write-room-kept _ _ (a .j) (omega arith));
+      room-is = sym (write-room-kept _ _ (a .j) (omega arith));
     }
 
 written : tie.Need-returns-3

@@ -30,8 +30,7 @@ module _ (c : tie.After-is-on-grid) where
       record {
         L = at-b .before .before .grid-at .result;
         a = at-b .before .grid-at2 .result;
-        b =
-            at-b .grid-at3 .result;
+        b = at-b .grid-at3 .result;
       } ≡ colourIn bytes
   read =
       colour-is bytes (at-b .before .before .grid-at .ensures) (at-b .before .grid-at2 .ensures)
