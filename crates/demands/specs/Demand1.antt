@@ -18,7 +18,7 @@ use Rattle.ticket.specs.Ticket.{ticketOf}
 use Rattle.ticket.specs.Ticket.Grammar.{WrongAt}
 use Rattle.ticket.specs.Ticket.Grammar.Wrong.{wrong-exactly}
 use Rattle.standard.specs.Acceptance.{settingsOf}
-use Rattle.standard.specs.Figures.{referenceAnswer, specimenAnswer}
+use Rattle.standard.specs.Figures.{noReference, referenceAnswer, noSpecimen, specimenAnswer}
 use Rattle.standard.specs.declared.figures.Named.the-variants.{Nothing}
 use Rattle.standard.specs.declared.figures.ReferenceAnswer.{ReferenceAnswer}
 use Rattle.standard.specs.declared.figures.SpecimenAnswer.{SpecimenAnswer}
@@ -33,7 +33,7 @@ use Rattle.calls.specs.Exactly.{LoadByValue, LoadByCall, JudgeByValue, JudgeByC
 use Rattle.calls.specs.Exactly.Loads.{load-by-value, load-by-call}
 use Rattle.calls.specs.Exactly.Judgements.{judge-by-value, judge-by-call}
 use Rattle.calls.specs.Exactly.Tickets.{ticket-by-value, ticket-by-call}
-use Rattle.calls.specs.Exactly.Refused.{noReference, noSpecimen, reference-answers, specimen-answers}
+use Rattle.calls.specs.Exactly.Refused.{reference-answers, specimen-answers}
 use Rattle.calls.specs.Exactly.Refused.{load-kept, judge-kept, ticket-kept, given-kept, numberGiven, station-kept}
 use Rattle.calls.specs.Runs.{Call, sliceAfter}
 

@@ -25,6 +25,12 @@ pub mod Exact
 abbrev pub zero : Float
 zero = fin false 0 (pos 0)
 
+abbrev pub noReference : ReferenceFigures
+noReference = record { L = zero; a = zero; b = zero; C = zero; SL = zero; SC = zero; SH = zero }
+
+abbrev pub noSpecimen : SpecimenFigures
+noSpecimen = record { L = zero; a = zero; b = zero; C = zero; DL = zero; DC = zero; DH = zero; DE = zero }
+
 -- ---- a load: the reference's L*, a*, b*, C, SL, SC and SH
 
 unfoldable pub referenceFigures : Standard → ReferenceFigures
@@ -42,8 +48,7 @@ referenceFigures s =
     }
 
 unfoldable pub referenceAnswer : Acceptance → ReferenceAnswer
-referenceAnswer (A.Refused n) =
-    record { number = n; figures = record { L = zero; a = zero; b = zero; C = zero; SL = zero; SC = zero; SH = zero } }
+referenceAnswer (A.Refused n) = record { number = n; figures = noReference }
 referenceAnswer (A.Accepted s) = record { number = 0; figures = referenceFigures s }
 
 -- ---- a judgement or a ticket: the test specimen's L*, a*, b* and C, then DL, DC, DH, DE
@@ -61,10 +66,7 @@ specimenFigures T C d = record {
 }
 
 unfoldable pub specimenAnswer : Outcome → SpecimenAnswer
-specimenAnswer (O.Refused n) =
-    let none : SpecimenFigures =
-    record { L = zero; a = zero; b = zero; C = zero; DL = zero; DC = zero; DH = zero; DE = zero } in
-    record { number = n; figures = none; names = Nothing }
+specimenAnswer (O.Refused n) = record { number = n; figures = noSpecimen; names = Nothing }
 specimenAnswer (O.Judged j) =
     let found : SpecimenFigures = specimenFigures (j .test) (j .comparison .C) (j .comparison .differences) in
     record { number = 0; figures = found; names = Names (j .lightness) (j .chroma) (j .hue) (j .verdict) }

@@ -8,26 +8,18 @@ use borrow.Author.Tests.{ne-eqb}
 use Rattle.colour.specs.declared.placed.Reading.{Reading}
 use Rattle.standard.specs.Acceptance as Acceptance
 use Rattle.standard.specs.Judgement.{numberOf}
-use Rattle.standard.specs.Figures.{zero, referenceAnswer, specimenAnswer}
+use Rattle.standard.specs.Figures.{noReference, referenceAnswer, noSpecimen, specimenAnswer}
 use Rattle.standard.specs.declared.accept.Acceptance.{Acceptance}
 use Rattle.standard.specs.declared.accept.Acceptance.the-variants as A
 use Rattle.standard.specs.declared.judge.Outcome.{Outcome}
 use Rattle.standard.specs.declared.judge.Outcome.the-variants as O
-use Rattle.standard.specs.declared.figures.ReferenceFigures.{ReferenceFigures}
 use Rattle.standard.specs.declared.figures.ReferenceAnswer.{ReferenceAnswer}
-use Rattle.standard.specs.declared.figures.SpecimenFigures.{SpecimenFigures}
 use Rattle.standard.specs.declared.figures.SpecimenAnswer.{SpecimenAnswer}
 use Rattle.standard.specs.declared.figures.Named.the-variants.{Nothing}
 use Rattle.calls.specs.Calls.{Answer, Gives, writing, loadCall, judgeCall, ticketCall}
 use Rattle.calls.specs.Runs.{Call, load, judge, ticket, sliceAfter}
 
 -- ---- by value
-
-abbrev pub noReference : ReferenceFigures
-noReference = record { L = zero; a = zero; b = zero; C = zero; SL = zero; SC = zero; SH = zero }
-
-abbrev pub noSpecimen : SpecimenFigures
-noSpecimen = record { L = zero; a = zero; b = zero; C = zero; DL = zero; DC = zero; DH = zero; DE = zero }
 
 -- what holds of a load's number holds of the answer's, and with any but 0 the figures are 0.0
 pub reference-answers :

@@ -2,19 +2,13 @@
 use mathlib.Core.Path.{_≡_, refl, sym, ap, subst, _∙_}
 use mathlib.Core.Bool.{false}
 use mathlib.Core.List.{List, [], _∷_, _++_}
-use mathlib.Core.Logic.{_↔_, _⊎_, inl, inr}
+use mathlib.Core.Logic.{_↔_}
 use Prim.Native.Nat.{ℕ}
 use native.Mathlib.Omega.{arith}
 use lib.Dec.{eqb}
-use Rattle.colour.specs.Placed.{refusalOf, placeWritten}
+use Rattle.colour.specs.Placed.{placeWritten}
 use Rattle.colour.specs.Placed.Exactly.{WrittenOutOfRange, WrittenBeyond}
 use Rattle.colour.specs.Placed.Exactly.Ways.{read-written}
-use Rattle.colour.specs.Placed.Laws.{written-refused}
-use Rattle.colour.specs.declared.placed.Placed.{Placed}
-use Rattle.colour.specs.declared.placed.Placed.the-variants as P
-use Rattle.colour.specs.declared.placed.Written.{Written}
-use Rattle.colour.specs.declared.white.White.{White}
-use Rattle.sheet.specs.declared.settings.Settings.{Settings}
 use Rattle.ticket.specs.Ticket.{ticketOf}
 use Rattle.ticket.specs.Ticket.Grammar.Wrong.{wrong-exactly}
 use Rattle.ticket.specs.Ticket.Grammar.Right.{right-exactly}
@@ -22,17 +16,13 @@ use Rattle.ticket.specs.declared.lines.Ticket.{Ticket}
 use Rattle.ticket.specs.declared.lines.Parsed.{Parsed}
 use Rattle.ticket.specs.declared.lines.Parsed.the-variants.{Right, Wrong}
 use Rattle.standard.specs.Refusals.{first}
-use Rattle.standard.specs.Refusals.Laws.{first-some, refusal-room, refusal-keeps}
-use Rattle.standard.specs.Acceptance as Acceptance
+use Rattle.standard.specs.Refusals.Laws.{refusal-room, refusal-keeps}
 use Rattle.standard.specs.Judgement.{numberOf}
-use Rattle.standard.specs.Judgement.Laws.{outcome-number}
-use Rattle.standard.specs.declared.accept.Acceptance.{Acceptance}
 use Rattle.station.specs.Record.Exactly.{FactorsOut, ToleranceOut}
-use Rattle.station.specs.Record.Exactly.Accepting.{Accepts, factors-out, tolerance-out, reference-out}
-use Rattle.station.specs.Record.Exactly.Accepting.{accepts, accepting}
-use Rattle.calls.specs.Outcome.{judgedAfter, ticketOutcome, ticketFaults}
+use Rattle.station.specs.Record.Exactly.Accepting.{accepting}
+use Rattle.calls.specs.Outcome.{ticketOutcome, ticketFaults}
 use Rattle.calls.specs.Outcome.Each.{ticket-each}
-use Rattle.calls.specs.Outcome.Ticket.{ticket-number, ticket-room}
+use Rattle.calls.specs.Outcome.Ticket.{both-number, ticket-number, ticket-room}
 use Rattle.calls.specs.Calls.{roomFault, ticketCall}
 use Rattle.calls.specs.Calls.Numbers.{OneOf, ticket-never-1-2-5-or-9}
 use Rattle.calls.specs.Exactly.{WrongText, InTicket, TicketFactorsOut, TicketToleranceOut}
@@ -47,22 +37,6 @@ OfValue n = OneOf n (0 ∷ 3 ∷ 4 ∷ 6 ∷ 7 ∷ 8 ∷ [])
 
 -- ---- a right ticket
 
-written-some : (w : White) (r : Written) {n : ℕ} → placeWritten w r ≡ P.Refused n → ¬ (n ≡ 0)
-written-some w r {n} e z = go (written-refused w r e)
-  where
-    go : (n ≡ 6) ⊎ (n ≡ 8) → ⊥
-    go (inl h) = omega arith
-    go (inr h) = omega arith
-
--- the test specimen's number comes after the load's
-after-number :
-    {s : Settings} {p : Placed} {a : Acceptance} → Accepts s p a → ((n : ℕ) → p ≡ P.Refused n → ¬ (n ≡ 0)) →
-    (test : Placed) → first (Acceptance.numberOf a) (refusalOf test) ≡ numberOf (judgedAfter a test)
-after-number (factors-out h) some test = refl
-after-number (tolerance-out g h) some test = refl
-after-number (reference-out g t n e) some test = first-some _ (some n e)
-after-number (accepts g t c e) some test = sym (outcome-number _ test)
-
 module _ (t : Ticket) where
   abbrev rightRules : List Rule
   rightRules =
@@ -71,11 +45,10 @@ module _ (t : Ticket) where
       ∷ rule 6 (WrittenOutOfRange (t .test)) ∷ rule 8 (WrittenBeyond (t .settings .white) (t .test)) ∷ []
 
   right-first : First rightRules (numberOf (ticketOutcome (Right t)))
-  unfolding ticketOutcome
   right-first =
       let w = t .settings .white in
       let load = accepting (t .settings) (placeWritten w (t .reference)) in
-      subst (First rightRules) (after-number load (λ n e. written-some w (t .reference) e) (placeWritten w (t .test)))
+      subst (First rightRules) (sym (both-number t))
       (first-then refl (accept-first load (written-first (read-written w (t .reference))))
       (written-first (read-written w (t .test))))
 

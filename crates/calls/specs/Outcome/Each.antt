@@ -14,6 +14,7 @@ use Rattle.colour.specs.declared.white.Numbered.{Numbered}
 use Rattle.colour.specs.declared.white.Numbered.the-variants as W
 use Rattle.colour.specs.declared.white.White.{White}
 use Rattle.sheet.specs.Settings.{formulaNumbered, isFactor, isTolerance}
+use Rattle.ticket.specs.declared.lines.Ticket.{Ticket}
 use Rattle.ticket.specs.declared.lines.Parsed.{Parsed}
 use Rattle.ticket.specs.declared.lines.Parsed.the-variants.{Right, Wrong}
 use Rattle.standard.specs.Refusals.Laws.{Each, none, more}
@@ -74,11 +75,15 @@ module _ (Q : ℕ → Type 0) (zero : Q 0) where
   judge-each five six eight nine Empty r = more nine none
   judge-each five six eight nine (Holds s) r = more (reading-keeps five six eight (s .settings .white) r) none
 
-  pub ticket-each : Q 3 → Q 4 → Q 6 → Q 7 → Q 8 → (p : Parsed) → Each Q (ticketFaults p)
+  pub right-each : Q 3 → Q 4 → Q 6 → Q 8 → (t : Ticket) → Each Q (ticketFaults (Right t))
   unfolding ticketFaults acceptFaults
-  ticket-each three four six seven eight (Wrong line) = more seven none
-  ticket-each three four six seven eight (Right t) =
+  right-each three four six eight t =
       let by = t .settings in
       more (written-keeps six eight (by .white) (t .test))
       (more (written-keeps six eight (by .white) (t .reference))
       (range-each three four (by .l) (by .c) (by .tolerance)))
+
+  pub ticket-each : Q 3 → Q 4 → Q 6 → Q 7 → Q 8 → (p : Parsed) → Each Q (ticketFaults p)
+  unfolding ticketFaults
+  ticket-each three four six seven eight (Wrong line) = more seven none
+  ticket-each three four six seven eight (Right t) = right-each three four six eight t

@@ -83,11 +83,18 @@ module _ (t : Ticket) where
   after-number (A.Refused n) some = sym (first-some (refusalOf test) (some n refl))
   after-number (A.Accepted s) some = outcome-number s test
 
-  right-number : numberOf (ticketOutcome (Right t)) ≡ refusal (ticketFaults (Right t))
+  -- the load's number, or else the test specimen's
+  pub both-number :
+      numberOf (ticketOutcome (Right t))
+      ≡ first (Acceptance.numberOf (acceptance (t .settings) reference)) (refusalOf test)
   unfolding ticketOutcome
-  right-number =
+  both-number =
       after-number (acceptance (t .settings) reference)
       (λ n e. refused-some (t .settings) reference (λ m h. written-some _ _ h) e)
+
+  right-number : numberOf (ticketOutcome (Right t)) ≡ refusal (ticketFaults (Right t))
+  right-number =
+      both-number
       ∙ ap (λ (n : ℕ). first n (refusalOf test)) (accept-number (t .settings) reference) ∙ sym right-refusal
 
 pub ticket-number : (p : Parsed) → numberOf (ticketOutcome p) ≡ refusal (ticketFaults p)

@@ -27,30 +27,22 @@ use Rattle.text.specs.Bytes.Parts.{free, free-append}
 use Rattle.text.specs.Decimal.{decimalText}
 use Rattle.text.specs.Names.{formulaName, whiteName}
 use Rattle.text.specs.Number.Written.{free-minus, free-decimal}
+use Rattle.text.specs.Lines.{ended}
+use Rattle.text.specs.Lines.Laws.{bytes, Proper, AreLines}
 use Rattle.text.specs.Put.{joined, line}
 use Rattle.text.specs.declared.decimal.Shown.{Shown}
 use Rattle.lines.specs.Lines.{lightnessWord, chromaWord, axisWord, hueWord, verdictWord, unlessWithheld}
 use Rattle.report.specs.Report.{settingLines, figureLines, wordLines, reportText}
 
--- ---- a text of k lines
-
--- a line with the LF that ends it
-abbrev pub ended : List ℕ → List ℕ
-ended l = l ++ (10 ∷ [])
-
--- no LF stands in any of them
-abbrev pub NoneInside : List (List ℕ) → Type 0
-NoneInside [] = Unit
-NoneInside (l ∷ ls) = (free 10 l ≡ true) × NoneInside ls
+-- ---- a text of k lines, each ended by LF; as `AreLines` has it, no other LF stands in them
 
 pub record IsLines (k : ℕ) (s : List ℕ) : Type 0 where
   pub lines : List (List ℕ)
   pub count : length lines ≡ k
-  pub whole : s ≡ joined (map ended lines)
-  pub none-inside : NoneInside lines
+  pub are : AreLines s (map ended lines)
 
 no-lines : IsLines 0 []
-no-lines = record { lines = []; count = refl; whole = refl; none-inside = tt }
+no-lines = record { lines = []; count = refl; are = record { whole = refl; proper = tt } }
 
 one-more-line :
     {k : ℕ} {s : List ℕ} (key value : List ℕ) → free 10 key ≡ true → free 10 value ≡ true → IsLines k s →
@@ -59,26 +51,34 @@ unfolding line
 one-more-line key value hk hv h = record {
   lines = (key ++ value) ∷ h .lines;
   count = ap suc (h .count);
-  whole = rw (h .whole) (simp append-assoc);
-  none-inside = (free-append 10 key value hk hv, h .none-inside);
+  are = record {
+    whole = rw (h .are .whole) (simp append-assoc);
+    proper = (free-append 10 key value hk hv, h .are .proper);
+  };
 }
 
-joined-ended : (ls ms : List (List ℕ)) → joined (map ended (ls ++ ms)) ≡ joined (map ended ls) ++ joined (map ended ms)
-joined-ended [] ms = refl
-joined-ended (l ∷ ls) ms =
-    ap (λ (t : List ℕ). ended l ++ t) (joined-ended ls ms)
-    ∙ sym (append-assoc (ended l) (joined (map ended ls)) (joined (map ended ms)))
+abbrev textOf : List (List ℕ) → List ℕ
+textOf ls = joined (map bytes (map ended ls))
 
-none-inside-append : (ls ms : List (List ℕ)) → NoneInside ls → NoneInside ms → NoneInside (ls ++ ms)
-none-inside-append [] ms h g = g
-none-inside-append (l ∷ ls) ms h g = (h .0, none-inside-append ls ms (h .1) g)
+whole-append : (ls ms : List (List ℕ)) → textOf (ls ++ ms) ≡ textOf ls ++ textOf ms
+whole-append [] ms = refl
+whole-append (l ∷ ls) ms =
+    ap (λ (t : List ℕ). bytes (ended l) ++ t) (whole-append ls ms)
+    ∙ sym (append-assoc (bytes (ended l)) (textOf ls) (textOf ms))
+
+proper-append :
+    (ls ms : List (List ℕ)) → Proper (map ended ls) → Proper (map ended ms) → Proper (map ended (ls ++ ms))
+proper-append [] ms h g = g
+proper-append (l ∷ ls) ms h g = (h .0, proper-append ls ms (h .1) g)
 
 lines-append : {k m : ℕ} {s t : List ℕ} → IsLines k s → IsLines m t → IsLines (k + m) (s ++ t)
 lines-append h g = record {
   lines = h .lines ++ g .lines;
   count = length-append (h .lines) (g .lines) ∙ ap₂ _+_ (h .count) (g .count);
-  whole = ap₂ _++_ (h .whole) (g .whole) ∙ sym (joined-ended (h .lines) (g .lines));
-  none-inside = none-inside-append (h .lines) (g .lines) (h .none-inside) (g .none-inside);
+  are = record {
+    whole = ap₂ _++_ (h .are .whole) (g .are .whole) ∙ sym (whole-append (h .lines) (g .lines));
+    proper = proper-append (h .lines) (g .lines) (h .are .proper) (g .are .proper);
+  };
 }
 
 -- ---- what a line says has no LF

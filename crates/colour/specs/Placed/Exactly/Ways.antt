@@ -1,7 +1,7 @@
 -- A reading is refused by the first of its rules that holds, and placed where none does. Assumes nothing.
 use mathlib.Core.Path.{_≡_, refl, sym, _∙_}
 use mathlib.Core.Bool.{Bool, true, false, _&&_, cond}
-use mathlib.Core.Logic.{_⊎_, inl, inr}
+use mathlib.Core.Logic.{_⊎_, inl, inr, ⊎-elim}
 use Prim.Native.Nat.{ℕ, _*_, _^_, _<_}
 use native.Mathlib.Nat.{not-le-of-lt}
 use borrow.Author.Tests.{leb-true, leb-false}
@@ -67,9 +67,7 @@ data Taken (NotFinite Outside : Type 0) (u v w : Units) (next : (x y z : ℤ) �
       Taken NotFinite Outside u v w next (next x y z)
 
 neither : {A B C : Type 0} → ¬ A → ¬ B → ¬ C → ¬ (A ⊎ (B ⊎ C))
-neither f g h (inl a) = f a
-neither f g h (inr (inl b)) = g b
-neither f g h (inr (inr c)) = h c
+neither f g h = ⊎-elim f (⊎-elim g h)
 
 taken :
     {N M K O P Q : Type 0} {u v w : Units} (next : (x y z : ℤ) → Placed) → OfOne N O u → OfOne M P v → OfOne K Q w →
@@ -107,17 +105,13 @@ conversion c = go (isWithin (rangeOf Opponent) (c .a .0)) refl (isWithin (rangeO
     inside : (k : ℤ) → isWithin (rangeOf Opponent) k ≡ true → ¬ (256 * 2 ^ 20 < ∣ k ∣)
     inside k e h = not-le-of-lt h (opponent-le k e)
 
-    neither-of : ¬ (256 * 2 ^ 20 < ∣ c .a .0 ∣) → ¬ (256 * 2 ^ 20 < ∣ c .b .0 ∣) → ¬ (Beyond256 c)
-    neither-of f g (inl h) = f h
-    neither-of f g (inr h) = g h
-
     go :
         (p : Bool) → isWithin (rangeOf Opponent) (c .a .0) ≡ p →
         (q : Bool) → isWithin (rangeOf Opponent) (c .b .0) ≡ q →
         Conversion c (cond (p && q) (At c) (Refused 8))
     go false a q b = far (inl (beyond-of (c .a .0) a))
     go true a false b = far (inr (beyond-of (c .b .0) b))
-    go true a true b = near (neither-of (inside (c .a .0) a) (inside (c .b .0) b))
+    go true a true b = near (⊎-elim (inside (c .a .0) a) (inside (c .b .0) b))
 
 -- X, Y, Z that were read, against a white
 xyz-read :

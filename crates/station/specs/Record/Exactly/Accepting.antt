@@ -2,7 +2,7 @@
 -- refuses. Assumes nothing.
 use mathlib.Core.Path.{_≡_, refl, sym, subst, _∙_}
 use mathlib.Core.Bool.{Bool, true, false, cond, true≢false}
-use mathlib.Core.Logic.{_⊎_, inl, inr}
+use mathlib.Core.Logic.{_⊎_, inl, inr, ⊎-elim}
 use Prim.Native.Nat.{ℕ, _≤_}
 use native.Mathlib.Nat.{not-le-of-lt}
 use native.Mathlib.Omega.{arith}
@@ -57,10 +57,6 @@ module _ (low high n : ℕ) where
 
   outside-of : within low high n ≡ false → Outside low high n
   outside-of e = outside low high n (λ l h. true≢false (sym (within-in low high n l h) ∙ e))
-
-neither : {A B : Type 0} → ¬ A → ¬ B → ¬ (A ⊎ B)
-neither f g (inl a) = f a
-neither f g (inr b) = g b
 
 -- ---- numbers become settings, unless one names nothing
 
@@ -153,7 +149,7 @@ accepting s p = go (isFactor (s .l)) refl (isFactor (s .c)) refl (isTolerance (s
     go true hl false hc d ht = settings (c-out _ _ _ hl hc) (λ z. omega arith) (factors-out (inr (outside-of _ _ _ hc)))
     go true hl true hc false ht =
         settings (tolerance-off _ _ _ hl hc ht) (λ z. omega arith)
-        (tolerance-out (neither (inside-of _ _ _ hl) (inside-of _ _ _ hc)) (outside-of _ _ _ ht))
+        (tolerance-out (⊎-elim (inside-of _ _ _ hl) (inside-of _ _ _ hc)) (outside-of _ _ _ ht))
     go true hl true hc true ht =
         reference (all-in _ _ _ hl hc ht)
-        (neither (inside-of _ _ _ hl) (inside-of _ _ _ hc)) (inside-of _ _ _ ht) p refl
+        (⊎-elim (inside-of _ _ _ hl) (inside-of _ _ _ hc)) (inside-of _ _ _ ht) p refl
