@@ -1,43 +1,20 @@
-/* A host of the station: loads a standard, judges three test specimens, loads another standard, and says what a refusal
- * means.
+/* A host of the station: asks the library for its version, loads a standard, judges three test specimens, loads another
+ * standard, and says what a refusal means.
  *
- *     cc -Iinclude -o host examples/host.c target/staticlib/libshade.a && ./host
+ *     cc -Iinclude -o target/host examples/host.c target/staticlib/libshade.a && target/host
  *
  * It prints examples/host.out. */
 #include <stdio.h>
 
 #include "shade.h"
 
-static const char *const meanings[] = {
-    "done",
-    "no such formula",
-    "no such white",
-    "l or c is not from 0.500 to 10.000",
-    "the tolerance is not from 0.100 to 10.000",
-    "a reading is not a number",
-    "a reading is out of range",
-    "the ticket is not written as it should be",
-    "the colour lies too far from grey",
-    "no standard is loaded",
-    "the lent slice has the wrong length",
-};
-
 /* The reports go into one page, each from where the one before it ended. */
 static uint8_t page[5 * SHADE_REPORT_BYTES];
 static size_t used;
 
-/* A report ends after its twelfth LF. */
-static size_t report_length(const uint8_t *report)
-{
-    size_t length = 0;
-    for (int lines = 0; lines < 12; length++)
-        lines += report[length] == '\n';
-    return length;
-}
-
 static void answer(const char *call, uint32_t number)
 {
-    printf("-- %s: %u, %s\n", call, (unsigned)number, meanings[number]);
+    printf("-- %s: %u, %s\n", call, (unsigned)number, shade_refusal_text(number));
 }
 
 /* Prints the report that a call has put into the page, if it was not refused. */
@@ -46,7 +23,7 @@ static void print(const char *call, uint32_t number)
     answer(call, number);
     if (number != 0)
         return;
-    size_t length = report_length(page + used);
+    size_t length = shade_report_length(page + used, sizeof page - used);
     fwrite(page + used, 1, length, stdout);
     used += length;
 }
@@ -58,6 +35,10 @@ int main(void)
     uint8_t station[SHADE_STATION_BYTES] = {0};
     double zero = 0;
 
+    if (shade_version() / 100 != SHADE_VERSION_MAJOR) {
+        fputs("the library is of another version than the header\n", stderr);
+        return 1;
+    }
     print("judge before any load", shade_judge_lab(station, sizeof station, 51, 0, 0, page, sizeof page, used));
 
     /* CMC(2:1), tolerance 1 */

@@ -1,9 +1,11 @@
 /* shade.h: a colour-difference station for C, in the static library libshade.a (x86-64, Linux).
  *
  * Load a standard, then judge test specimens against it; or hand over a ticket, a text that holds both. The answer is a
- * number, and for a judgement or a ticket a report of twelve lines. examples/host.c shows every call.
+ * number, and for a judgement or a ticket a report of twelve lines. examples/host.c shows every call. Besides the calls
+ * of the library there are two small functions in this header, for a report's length and for a refusal in words. It
+ * needs C99 or C++98.
  *
- *     cc -Iinclude -o host examples/host.c target/staticlib/libshade.a
+ *     cc -Iinclude -o target/host examples/host.c target/staticlib/libshade.a
  *
  * Nothing is kept between calls but the bytes of the station, and those lie in memory that the host lends.
  *
@@ -16,8 +18,9 @@
  *     writes a slice that another one uses.
  *
  * ANSWERS
- *     Every call returns 0, or the number of its refusal. A refused call writes no byte: station and room stay as they
- *     were. Of several refusals that apply, the one given is the first in the order that stands over each call.
+ *     A load, a judgement or a ticket returns 0, or the number of its refusal. A refused call writes no byte: station
+ *     and room stay as they were. Of several refusals that apply, the one given is the first in the order that stands
+ *     over each call.
  *
  * READINGS
  *     Three doubles. X, Y, Z: from 0 to 150 each, read to the nearest millionth. Or L*, from 0 to 120, and a*, b*, from
@@ -38,11 +41,14 @@ extern "C" {
 #endif
 
 /* THE VERSION
- *     SHADE_VERSION is MAJOR * 1000 + MINOR, a number for #if: 1.0 is 1000, and SHADE_VERSION >= 1002 asks for 1.2 or
- *     later. */
+ *     SHADE_VERSION is 100 * MAJOR + MINOR, a number for #if: 1.1 is 101, and SHADE_VERSION >= 102 asks for 1.2 or
+ *     later. It is this header's; shade_version() answers that of the library that the host was linked with. Where the
+ *     two differ in the major number, the host was compiled for other calls, and should not go on. */
 #define SHADE_VERSION_MAJOR 1
-#define SHADE_VERSION_MINOR 0
-#define SHADE_VERSION (SHADE_VERSION_MAJOR * 1000 + SHADE_VERSION_MINOR)
+#define SHADE_VERSION_MINOR 1
+#define SHADE_VERSION (100 * SHADE_VERSION_MAJOR + SHADE_VERSION_MINOR)
+#define SHADE_VERSION_STRING "1.1"
+uint32_t shade_version(void);
 
 /* formula: a figure or a tolerance of one is in another unit than one of another: the two are not to be compared. */
 #define SHADE_CIELAB 1
@@ -75,6 +81,37 @@ extern "C" {
 #define SHADE_REFUSED_NO_STANDARD 9   /* a judgement, and the station holds no standard */
 #define SHADE_REFUSED_LENGTH 10       /* the room is shorter than the report, or a load's slice has another length */
 
+/* A refusal in words, those of the manual. */
+static inline const char *shade_refusal_text(uint32_t number)
+{
+    switch (number) {
+    case 0:
+        return "no refusal";
+    case SHADE_REFUSED_FORMULA:
+        return "no such formula";
+    case SHADE_REFUSED_WHITE:
+        return "no such white";
+    case SHADE_REFUSED_FACTOR:
+        return "l or c is below 0.5 or above 10";
+    case SHADE_REFUSED_TOLERANCE:
+        return "the tolerance is below 0.1 or above 10";
+    case SHADE_REFUSED_NOT_A_NUMBER:
+        return "a reading is not a number, or infinite";
+    case SHADE_REFUSED_OUT_OF_RANGE:
+        return "a reading is out of range";
+    case SHADE_REFUSED_TICKET:
+        return "the ticket is not written as it should be";
+    case SHADE_REFUSED_BEYOND_256:
+        return "X, Y, Z give an a* or b* beyond 256";
+    case SHADE_REFUSED_NO_STANDARD:
+        return "no standard is loaded";
+    case SHADE_REFUSED_LENGTH:
+        return "a slice that was lent has the wrong length";
+    default:
+        return "unknown number";
+    }
+}
+
 /* THE STATION
  *     These bytes, without padding; a number of several bytes has the lowest first, a* and b* are two's complement:
  *
@@ -96,9 +133,14 @@ extern "C" {
 
 /* THE REPORT
  *     Twelve lines, each ended by LF (10); no NUL follows. It is put into the room from a column on, counted from 0:
- *     room + column is its first byte. Bytes before it and after it stay. It ends after its twelfth LF. The room has to
- *     have as many bytes from the column on as the report is long; SHADE_REPORT_BYTES are always enough. A column at or
- *     past the room's end leaves none.
+ *     room + column is its first byte. It ends after its twelfth LF, and bytes before it and after it stay.
+ *
+ *     So a room that is used again still holds the end of an earlier report where that was longer: never print a room
+ *     whole, or up to a NUL. Where a call has answered 0, take the report's own length,
+ *     shade_report_length(room + column, room_len - column).
+ *
+ *     The room has to have as many bytes from the column on as the report is long; SHADE_REPORT_BYTES are always
+ *     enough. A column at or past the room's end leaves none.
  *
  *         formula=CMC                          CIELAB, CIE94 or CMC
  *         white=D65/10                         D65/10, D65/2, C/10 or C/2
@@ -117,6 +159,19 @@ extern "C" {
  *     The four are withheld under CMC where the reference is achromatic: its a* and b*, squared, sum up to 16 at most.
  *     A number has a minus only if a digit is shown that is not 0. */
 #define SHADE_REPORT_BYTES 161
+#define SHADE_REPORT_LINES 12
+
+/* The length of the report that a call has put at this place: the bytes up to and with the twelfth LF, or 0 where there
+ * are no twelve. It is for a call that has answered 0: after a refused one the room holds what it held before, and that
+ * can be an earlier report. */
+static inline size_t shade_report_length(const uint8_t *room, size_t len)
+{
+    size_t at, lines = 0;
+    for (at = 0; at < len; at++)
+        if (room[at] == 10 && ++lines == SHADE_REPORT_LINES)
+            return at + 1;
+    return 0;
+}
 
 /* THE TICKET
  *     A text of these lines, each ended by LF, and nothing after them; l and c may both be left out, for 1.000 each:

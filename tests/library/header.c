@@ -6,6 +6,7 @@
 typedef uint32_t load(uint8_t *, size_t, uint32_t, uint32_t, uint32_t, uint32_t, uint32_t, double, double, double);
 typedef uint32_t judge(const uint8_t *, size_t, double, double, double, uint8_t *, size_t, size_t);
 typedef uint32_t ticket(const uint8_t *, size_t, uint8_t *, size_t, size_t);
+typedef uint32_t version(void);
 
 /* A second declaration is refused if it does not agree with the first, in C++ also about C's names. */
 #ifdef __cplusplus
@@ -14,9 +15,18 @@ extern "C" {
 extern load shade_load_xyz, shade_load_lab;
 extern judge shade_judge_xyz, shade_judge_lab;
 extern ticket shade_ticket;
+extern version shade_version;
 #ifdef __cplusplus
 }
 #endif
+
+/* The functions of the header itself. */
+typedef size_t length(const uint8_t *, size_t);
+typedef const char *text(uint32_t);
+extern length *const report_length;
+extern text *const refusal_text;
+length *const report_length = shade_report_length;
+text *const refusal_text = shade_refusal_text;
 
 /* If the constant is another, this array has the length -1, and is refused. */
 #define IS(constant, number) extern char constant##_is_##number[(constant) == (number) ? 1 : -1]
@@ -48,14 +58,15 @@ IS(SHADE_REFUSED_BEYOND_256, 8);
 IS(SHADE_REFUSED_NO_STANDARD, 9);
 IS(SHADE_REFUSED_LENGTH, 10);
 
-/* SCOPE 1.4, 10.2 and 9.1 */
+/* SCOPE 1.4, 10.2, 10.1 and 9.1 */
 IS(SHADE_STATION_BYTES, 20);
 IS(SHADE_REPORT_BYTES, 161);
+IS(SHADE_REPORT_LINES, 12);
 IS(SHADE_TICKET_BYTES, 4096);
 
 /* The version is a number that an #if can take. */
 IS(SHADE_VERSION_MAJOR, 1);
-IS(SHADE_VERSION_MINOR, 0);
-#if SHADE_VERSION != SHADE_VERSION_MAJOR * 1000 + SHADE_VERSION_MINOR || SHADE_VERSION < 1000
-#error "SHADE_VERSION is not MAJOR * 1000 + MINOR"
+IS(SHADE_VERSION_MINOR, 1);
+#if SHADE_VERSION != 100 * SHADE_VERSION_MAJOR + SHADE_VERSION_MINOR || SHADE_VERSION < 101
+#error "SHADE_VERSION is not 100 * MAJOR + MINOR"
 #endif

@@ -1,5 +1,6 @@
 /* The whole case of SCOPE 11.1 through libshade.a: the ticket's report from a column of a lent room, byte for byte,
- * every other byte kept; the same pair loaded and judged; and refused calls, which write nothing.
+ * every other byte kept; the same pair loaded and judged; and refused calls, which write nothing. Then what the header
+ * has beside the calls: the length of a report after a longer one in the same room, the words, the version.
  *
  * Usage: whole
  *
@@ -7,6 +8,8 @@
 #include "shade.h"
 
 int printf(const char *, ...);
+int snprintf(char *, size_t, const char *, ...);
+int strcmp(const char *, const char *);
 size_t strlen(const char *);
 
 enum { ROOM = 200, COLUMN = 7, KEPT = 0xa5 };
@@ -20,6 +23,14 @@ static const char REPORT[] =
 static uint8_t room[ROOM];
 static int differences;
 
+static void same(const char *what, int is)
+{
+    if (!is) {
+        printf("differs: %s\n", what);
+        differences++;
+    }
+}
+
 static void clear(void)
 {
     for (size_t at = 0; at < ROOM; at++)
@@ -30,16 +41,23 @@ static void clear(void)
 static void expect(const char *call, uint32_t number, uint32_t wanted)
 {
     size_t length = wanted == 0 ? strlen(REPORT) : 0;
-    int same = number == wanted;
+    int is = number == wanted;
     for (size_t at = 0; at < ROOM; at++) {
         int inside = at >= COLUMN && at < COLUMN + length;
-        same = same && room[at] == (inside ? (uint8_t)REPORT[at - COLUMN] : KEPT);
+        is = is && room[at] == (inside ? (uint8_t)REPORT[at - COLUMN] : KEPT);
     }
-    if (!same) {
-        printf("differs: %s\n", call);
-        differences++;
-    }
+    same(call, is);
     clear();
+}
+
+/* Whether the room has this text before a place. */
+static int ends_in(size_t place, const char *text)
+{
+    size_t length = strlen(text);
+    int is = place >= length;
+    for (size_t at = 0; is && at < length; at++)
+        is = room[place - length + at] == (uint8_t)text[at];
+    return is;
 }
 
 /* CMC(1:1), tolerance 1 */
@@ -56,6 +74,35 @@ static uint32_t judge(const uint8_t *station, double lightness)
 static uint32_t ticket(size_t length, size_t room_length)
 {
     return shade_ticket((const uint8_t *)TICKET, length, room, room_length, COLUMN);
+}
+
+/* By CIELAB the turn has a long name, and an equal colour a short one; the end of the long report stays behind the short
+ * one. A room that has no twelve lines holds no report. */
+static void lengths(void)
+{
+    static const char turned[] = "hue=yellower(greener)\nverdict=fail\n", equal[] = "hue=equal\nverdict=pass\n";
+    uint8_t station[SHADE_STATION_BYTES] = {0};
+    size_t size = sizeof station;
+    shade_load_lab(station, size, SHADE_CIELAB, SHADE_D65_10, 1000, 1000, 1000, 50, 20, 20);
+
+    same("no report", shade_report_length(room, ROOM) == 0 && shade_report_length(0, 0) == 0);
+    shade_judge_lab(station, size, 50, -20, 19, room, ROOM, COLUMN);
+    size_t longer = shade_report_length(room + COLUMN, ROOM - COLUMN), end = COLUMN + longer;
+    same("a report's end", ends_in(end, turned));
+    shade_judge_lab(station, size, 50, 20, 20, room, ROOM, COLUMN);
+    size_t shorter = shade_report_length(room + COLUMN, ROOM - COLUMN);
+    same("a shorter report", shorter < longer && ends_in(COLUMN + shorter, equal) && room[end - 1] == 10);
+    same("a byte too few", shade_report_length(room + COLUMN, shorter - 1) == 0);
+    same("just its bytes", shade_report_length(room + COLUMN, shorter) == shorter);
+}
+
+static void version(void)
+{
+    char text[16];
+    snprintf(text, sizeof text, "%d.%d", SHADE_VERSION_MAJOR, SHADE_VERSION_MINOR);
+    same("the library's version", shade_version() == SHADE_VERSION);
+    same("the version as a text", strcmp(text, SHADE_VERSION_STRING) == 0);
+    same("words of a number that is none", strcmp(shade_refusal_text(11), "unknown number") == 0);
 }
 
 int main(void)
@@ -75,6 +122,8 @@ int main(void)
         differences++;
     expect("judge", judge(station, 51), 0);
     expect("judge out of range", judge(station, 121), SHADE_REFUSED_OUT_OF_RANGE);
-    printf("whole: 10 calls, %d differences\n", differences);
+    lengths();
+    version();
+    printf("whole: 10 calls, lengths, words, version: %d differences\n", differences);
     return differences != 0;
 }

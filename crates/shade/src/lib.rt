@@ -3,6 +3,8 @@ use calls::judge_call;
 use calls::load_call;
 use calls::ticket_call;
 use colour::placed::Reading;
+ghost use mathlib.Core.Path.{_≡_};
+ghost use Rattle.shade.specs.Version.{version};
 ghost use Rattle.colour.specs.declared.placed.Reading.the-variants.{Xyz, Lab};
 ghost use Rattle.calls.specs.Calls.{Gives, loadCall, judgeCall, ticketCall};
 ghost use Rattle.calls.specs.Runs.{AsFresh};
@@ -100,4 +102,16 @@ pub extern "C" fn shade_ticket(text: &[u8], room: &mut [u8], column: usize) -> u
     ensures { λ n. ⌜ Gives (ticketCall (now (text .entry)) (now (room .entry)) column) n (now (room .exit)) ⌝ }
 {
     ticket_call(text, room, column)
+}
+
+const MAJOR: u32 = 1;
+
+const MINOR: u32 = 1;
+
+// SHADE_VERSION of the header that this library was made with.
+#[no_mangle]
+pub extern "C" fn shade_version() -> u32
+    ensures { λ n. ⌜ n ≡ version ⌝ }
+{
+    100 * MAJOR + MINOR
 }

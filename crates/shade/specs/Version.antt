@@ -1,0 +1,17 @@
+-- The version that a host can ask the library for: a number that grows with every version.
+use mathlib.Core.Path.{_≡_, refl}
+use Prim.Native.Nat.{ℕ, _+_, _*_}
+
+pub major : ℕ
+major = 1
+
+pub minor : ℕ
+minor = 1
+
+pub version : ℕ
+version = 100 * major + minor
+
+-- of 1.1 it is 101
+pub one-point-one : 101 ≡ version
+unfolding version major minor
+one-point-one = refl
