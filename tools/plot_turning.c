@@ -92,9 +92,9 @@ int main(void)
         printf("<circle cx=\"%.1f\" cy=\"%.1f\" r=\"5\"/>\n", at.a, at.b);
     }
     words(CENTRE_X, 592, "middle", "#000",
-          "Dot: a reference. Arrow: the turn to the test specimen, and the name that the report gives.");
+          "Dot: a standard. Arrow: the turn to the test specimen, and the name that the report gives.");
     words(CENTRE_X, 612, "middle", "#000",
-          "Rings: the name for a reference at each degree, turning anticlockwise (outer) and clockwise (inner).");
+          "Rings: the name for a standard at each degree, turning anticlockwise (outer) and clockwise (inner).");
     printf("</svg>\n");
     return 0;
 }
