@@ -1,5 +1,7 @@
+# shellcheck shell=sh
+#
 # Usage: . tools/host.sh    (in the repository's folder)
-#     host_library NAME...                    proves libraries and makes target/staticlib/libNAME.a
+#     host_library NAME...                    proves and builds libraries, target/staticlib/libNAME.a, and programs
 #     host_build PROGRAM SOURCE.c WORD...     compiles SOURCE.c and links it with such archives; the words may also be
 #                                             flags -I, -L and -l, as pkg-config gives them
 #     host_run PROGRAM [WORD...]              runs it
@@ -10,26 +12,29 @@
 # Elsewhere it is the kit's clang, the system's ld.lld, the kit's C library for x86-64 and the kit's emulator.
 # HOST_BY_KIT=1 goes this second way on x86-64 too, where it needs no emulator.
 
+. tools/build.sh
+
 host_is_native() {
     [ "$(uname -m)" = x86_64 ] && [ "${HOST_BY_KIT:-0}" = 0 ]
 }
 
 # the kit's folder of tools that run on this machine; the C library for x86-64 lies in its lib
 host_toolchain() {
+    build_needs_rt || return
     kit=$(dirname "$(dirname "$(readlink -f "$(command -v rt)")")")
     echo "$kit/on/$(uname -m)/toolchain"
 }
 
-# One after another: two rt commands in one folder get in each other's way. What rt says is shown only where it fails.
+# in a shell of its own, since this may be sourced at a prompt
 host_library() {
-    mkdir -p target
-    for name in "$@"; do
-        if ! rt staticlib "$name" >"target/staticlib-$name.log" 2>&1; then
-            cat "target/staticlib-$name.log" >&2
-            echo "rt staticlib $name failed" >&2
-            return 1
-        fi
-    done
+    tools/build "$@"
+}
+
+# host_needs COMMAND PACKAGE
+host_needs() {
+    command -v "$1" >/dev/null && return
+    build_say "the command $1 is missing: install Debian's package $2"
+    return 2
 }
 
 # The next ones run in a shell of their own, so that they change no variable of the script that calls them.
@@ -47,6 +52,7 @@ host_clang() (
 host_build() (
     program=$1 source=$2
     shift 2
+    host_needs cc gcc || exit
     include='' link='' math='' place=-pie
     for word in "$@"; do
         case $word in
@@ -62,7 +68,7 @@ host_build() (
         # shellcheck disable=SC2086
         exec cc "$@" -o "$program" "$source" $link ${math:+-lm}
     fi
-    lib=$(host_toolchain)/lib
+    lib=$(host_toolchain)/lib || exit
     # shellcheck disable=SC2086
     host_clang "$@" -fPIC -c "$source" -o "$program.o" &&
         ld.lld "$place" -o "$program" --dynamic-linker "$lib/ld-linux-x86-64.so.2" "$lib/Scrt1.o" "$lib/crti.o" \
@@ -73,7 +79,8 @@ host_run() (
     if host_is_native; then
         exec "$@"
     fi
-    own=$(host_toolchain) lib=$(host_toolchain)/lib
+    own=$(host_toolchain) || exit
+    lib=$own/lib
     # by the kit's loader: the program gets the C library that it was linked with
     set -- "$lib/ld-linux-x86-64.so.2" --library-path "$lib" "$@"
     [ "$(uname -m)" = x86_64 ] || set -- "$own/bin/qemu-x86_64" "$@"
@@ -87,5 +94,6 @@ host_accepts() {
 
 # A number that does not fit stops the program.
 host_rust() {
+    host_needs rustc rustc || return
     rustc --edition 2021 -O -C overflow-checks -o "$1" "$2"
 }
