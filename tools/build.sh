@@ -5,7 +5,7 @@
 #     build NAME...    proves crates and builds what they are: target/bin/NAME, or target/staticlib/libNAME.a
 #     build_lock       waits until nothing else is proved or built in this tree, and keeps others waiting
 #     build_unlock     ends that
-#     build_can_write  fails, and says what cannot be written, where something that is built by could not be
+#     build_can_write  fails, and says what stands in the way, where the tree cannot be written
 #     build_needs_rt   fails, and says so, where the command rt is missing
 #
 # What bin/shadepass, make, the tests and the tools build by. What is built already, from just these sources, is left

@@ -1,4 +1,4 @@
--- The version that a host can ask the library for: a number that grows with every version.
+-- The version that a host can ask the library for: docs/SCOPE.md 1.3.
 use mathlib.Core.Path.{_≡_, refl}
 use Prim.Native.Nat.{ℕ, _+_, _*_}
 
