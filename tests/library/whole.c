@@ -17,7 +17,7 @@ enum { ROOM = 200, COLUMN = 7, KEPT = 0xa5 };
 static const char TICKET[] =
     "formula=CMC\nwhite=D65/10\nl=1.000\nc=1.000\ntol=1.000\nspace=LAB\nref=50 0 0\ntest=51 0 0\n";
 static const char REPORT[] =
-    "formula=CMC\nwhite=D65/10\nl=1.000\nc=1.000\nDE=0.9188\nDL=0.9188\nDC=withheld\nDH=withheld\n"
+    "formula=CMC\nwhite=D65/10\nl=1.000\nc=1.000\nDE=0.9189\nDL=0.9189\nDC=withheld\nDH=withheld\n"
     "lightness=lighter\nchroma=withheld\nhue=withheld\nverdict=pass\n";
 
 static uint8_t room[ROOM];

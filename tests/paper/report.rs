@@ -2,7 +2,7 @@
 
 use super::conversion::Colour;
 use super::names::{self, ChromaName, HueName, LightnessName};
-use super::numbers::ONE;
+use super::numbers::{nearest, ONE};
 use super::refusals::{Answer, WRONG_LENGTH};
 use super::sheet::{self, Verdict, PLACES};
 use super::standard::Standard;
@@ -17,10 +17,10 @@ fn name<T: Copy + PartialEq>(table: &[(T, &'static str)], value: T) -> &'static 
     name
 }
 
-/// SCOPE 10.3: the magnitude is rounded down to four decimals, with a minus only if a digit is shown
+/// SCOPE 10.3: the nearest four decimals, a tie away from zero, with a minus only if a digit is shown
 /// that is not zero.
 pub fn figure(units: i128) -> String {
-    let shown = units.unsigned_abs() * 10_000 / ONE;
+    let shown = nearest(units.unsigned_abs() * 10_000, ONE);
     let minus = if units < 0 && shown > 0 { "-" } else { "" };
     format!("{minus}{}.{:04}", shown / 10_000, shown % 10_000)
 }

@@ -21,8 +21,8 @@ formula=CMC
 white=D65/10
 l=1.000
 c=1.000
-DE=0.9188
-DL=0.9188
+DE=0.9189
+DL=0.9189
 DC=withheld
 DH=withheld
 lightness=lighter
@@ -137,19 +137,47 @@ fn whole_reports() {
     );
 }
 
-/// 105 units are the first that show a digit: 104.8576 units are 0.0001.
+/// 104.8576 units are 0.0001, and 52.4288 are half of it.
 fn shown_figures() {
     for (units, text) in [
         (0, "0.0000"),
-        (104, "0.0000"),
-        (-104, "0.0000"),
-        (105, "0.0001"),
-        (-105, "-0.0001"),
-        ((1 << 20) - 1, "0.9999"),
-        (1 - (2 << 20), "-1.9999"),
+        (52, "0.0000"),
+        (-52, "0.0000"),
+        (53, "0.0001"),
+        (-53, "-0.0001"),
+        (157, "0.0001"),
+        (158, "0.0002"),
+        // 1/32 is a tie, and so is each odd multiple of it
+        (32_767, "0.0312"),
+        (32_768, "0.0313"),
+        (-32_768, "-0.0313"),
+        (3 * 32_768, "0.0938"),
+        (5 * -32_768, "-0.1563"),
+        // a carry goes through, and can add a digit
+        (1_048_523, "0.9999"),
+        (1_048_524, "1.0000"),
+        (10_485_707, "9.9999"),
+        (10_485_708, "10.0000"),
+        (-10_485_708, "-10.0000"),
+        (104_857_547, "99.9999"),
+        (104_857_548, "100.0000"),
         (-12 << 20, "-12.0000"),
     ] {
         assert_eq!(figure(units), text);
+    }
+    no_figure_is_nearer();
+}
+
+/// Counted in units over 10,000, a last digit is 2^20 of them: what is shown is at most half as far
+/// from the figure, and farther from zero if it is just that far. 2^16 units on, the last digits come
+/// again.
+fn no_figure_is_nearer() {
+    for units in 0..=1_i128 << 16 {
+        let digits: i128 = figure(units).replace('.', "").parse().expect("digits");
+        let beyond = (digits << 20) - units * 10_000;
+        assert!(-(1 << 19) < beyond && beyond <= 1 << 19, "{units}");
+        let minus = if digits > 0 { "-" } else { "" };
+        assert_eq!(figure(-units), format!("{minus}{}", figure(units)));
     }
 }
 

@@ -1,5 +1,5 @@
--- docs/SCOPE.md 10: what the lines of a report say after their key. `Lines/Laws.antt` has the pieces of a hue,
--- `Lines/Longest.antt` how long each can be. Assumes nothing.
+-- docs/SCOPE.md 10: what the lines of a report say after their key. `Lines/Nearest.antt` says which figures they show,
+-- `Lines/Laws.antt` has the pieces of a hue, `Lines/Longest.antt` how long each can be. Assumes nothing.
 use mathlib.Core.Bool.{Bool, false, cond}
 use mathlib.Core.List.{List, [], _∷_}
 use Prim.Native.Nat.{ℕ, _^_}
@@ -19,6 +19,7 @@ use Rattle.text.specs.Ascii.{ascii}
 use Rattle.text.specs.Put.{joined}
 use Rattle.text.specs.Decimal.{withPlaces, shownAs}
 use Rattle.text.specs.declared.decimal.Shown.{Shown}
+pub mod Nearest
 pub mod Laws
 pub mod Longest
 
@@ -56,7 +57,7 @@ unlessWithheld withheld s = cond withheld (ascii "withheld") s
 
 -- ---- numbers
 
--- units of 2 ^ -20, with four decimals
+-- units of 2 ^ -20, to the nearest four decimals
 abbrev pub figure : (below : Bool) (m : ℕ) → Shown
 figure below m = shownAs 4 (2 ^ 20) below m
 

@@ -25,12 +25,14 @@ pub fn thousandths_of(m: u64) -> Shown
     }
 }
 
-// m units of 2^-20 with four decimals. The whole ones are taken off first, so that no product passes 64 bits.
+// m units of 2^-20 with four decimals, the nearest. The whole ones are taken off first, so that no product passes 64
+// bits.
 pub fn figure_of(below: bool, m: u64) -> Shown
     ensures { λ r. ⌜ r ≡ figure below m ⌝ }
 {
+    let rest = m % Grid::UNITS_IN_ONE * 10000;
     let units = m / Grid::UNITS_IN_ONE * 10000
-        + m % Grid::UNITS_IN_ONE * 10000 / Grid::UNITS_IN_ONE;
+        + (rest + Grid::UNITS_IN_ONE / 2) / Grid::UNITS_IN_ONE;
     Shown {
         places: 4,
         minus: if below { 0 < units } else { false },

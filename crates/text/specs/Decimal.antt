@@ -1,19 +1,23 @@
--- docs/SCOPE.md 10.3: a number as a decimal. `Decimal/Laws.antt` has what callers go by, `Number/Written.antt` reads
--- the digits back, and `Decimal/Cases.antt` has some figures. Assumes nothing.
+-- docs/SCOPE.md 10.3: a number as a decimal. `Decimal/Nearest.antt` says which figure is shown, and
+-- `Decimal/Signed.antt` with its sign; `Decimal/Laws.antt` has what callers go by, `Number/Written.antt` reads the
+-- digits back, and `Decimal/Cases.antt` has some figures. Assumes nothing.
 use mathlib.Core.Bool.{Bool, cond, _&&_}
 use mathlib.Core.List.{List, [], _∷_}
 use Prim.Native.Nat.{ℕ, zero, suc, _+_, _*_, _/_, _%_, _^_}
 use lib.Dec.{ltb}
+use Rattle.rounding.specs.Nearest.{nearestUp}
 use Rattle.text.specs.Ascii.{ascii}
 use Rattle.text.specs.Put.{joined}
 use Rattle.text.specs.declared.decimal.Shown.{Shown}
-pub mod Laws
 pub mod Cases
+pub mod Nearest
+pub mod Signed
+pub mod Laws
 
--- m units, of which perOne make one, counted in units of 10 ^ -places: rounded down. Every figure that is printed is
--- rounded here.
+-- m units, of which perOne make one, counted in units of 10 ^ -places: to the nearest, a tie upwards, as a reading's
+-- magnitude is. Every figure that is printed is rounded here.
 unfoldable pub shown : (places perOne m : ℕ) → ℕ
-shown places perOne m = m * 10 ^ places / perOne
+shown places perOne m = nearestUp (m * 10 ^ places) perOne
 
 -- ---- digits
 

@@ -1,6 +1,6 @@
 -- The sheet's own figures keep within what `Printable` allows a report: how many digits line 8 can have.
 -- Assumes nothing.
-use Prim.Native.Nat.{ℕ, _*_, _^_, _≤_, _<_}
+use Prim.Native.Nat.{ℕ, _+_, _*_, _^_, _≤_, _<_}
 use native.Mathlib.Nat.{mul-le-mul, mul-le-mul-left}
 use native.Mathlib.Omega.{arith}
 use lib.IntN.{ℤ}
@@ -22,12 +22,17 @@ use Rattle.report.specs.Report.Longest.{UnderCielab, UnderFactors, Figures}
 
 -- ---- line 8, below a number of ones: the shift is at most m, and what it is divided by at least e
 
+-- and so below one more, by one at least
+under : (ones : ℕ) {x : ℕ} → x < ones * 2 ^ 20 → Under (ones + 1) x
+under ones h = omega (arith, h)
+
 module _ (ones m e : ℕ) (some : 0 < e) where
-  component-lt : (l S : ℕ) (Δ : ℤ) → ∣ Δ ∣ ≤ m → e ≤ l * S → 1000 * m < ones * e → Under ones ∣ component 20 l S Δ ∣
+  component-lt :
+      (l S : ℕ) (Δ : ℤ) → ∣ Δ ∣ ≤ m → e ≤ l * S → 1000 * m < ones * e → ∣ component 20 l S Δ ∣ < ones * 2 ^ 20
   component-lt l S Δ h g most =
       rw abs-component (div-lt _ (l * S) (ones * 2 ^ 20) (omega arith) (omega (arith, mul-le-mul-left ones g)))
 
-  componentH-lt : (S : ℕ) (Δ : ℤ) → ∣ Δ ∣ ≤ m → e ≤ S → m < ones * e → Under ones ∣ componentH 20 S Δ ∣
+  componentH-lt : (S : ℕ) (Δ : ℤ) → ∣ Δ ∣ ≤ m → e ≤ S → m < ones * e → ∣ componentH 20 S Δ ∣ < ones * 2 ^ 20
   componentH-lt S Δ h g most =
       rw abs-componentH (div-lt _ S (ones * 2 ^ 20) (omega arith) (omega (arith, mul-le-mul-left ones g)))
 
@@ -44,8 +49,9 @@ under-cielab C {Δ} h =
     let DH = componentH-lt 725 759250125 (2 ^ 20) (omega arith) (2 ^ 20) (Δ .H) (h .H) (omega arith) (omega arith) in
     record {
       DE =
-          root-lt 2 _ (1000 * 2 ^ 20) (omega arith)
-          (omega (arith, mul-le-mul DL DL, mul-le-mul DC DC, mul-le-mul DH DH));
+          under 999
+          (root-lt 2 _ (999 * 2 ^ 20) (omega arith)
+          (omega (arith, mul-le-mul DL DL, mul-le-mul DC DC, mul-le-mul DH DH)));
       DL = omega arith;
       DC = omega arith;
       DH = omega arith;
@@ -62,12 +68,14 @@ under-factors {Δ = Δ} hl hc s m =
       DE = omega (arith, total-lt p);
       DL = omega arith;
       DL-at-ten =
-          λ e. component-lt 100 (120 * 2 ^ 20) (10000 * 535822) (omega arith) _ _ (Δ .L) (m .L)
-          (rw e (omega (arith, s .SL))) (omega arith);
+          λ e. under 99
+          (component-lt 99 (120 * 2 ^ 20) (10000 * 535822) (omega arith) _ _ (Δ .L) (m .L)
+          (rw e (omega (arith, s .SL))) (omega arith));
       DC = omega arith;
       DC-at-ten =
-          λ e. component-lt 100 (2 ^ 29) (10000 * 668991) (omega arith) _ _ (Δ .C) (m .C) (rw e (omega (arith, s .SC)))
-          (omega arith);
+          λ e. under 99
+          (component-lt 99 (2 ^ 29) (10000 * 668991) (omega arith) _ _ (Δ .C) (m .C) (rw e (omega (arith, s .SC)))
+          (omega arith));
       DH = omega arith;
     }
 

@@ -28,9 +28,9 @@ use Rattle.lines.specs.Lines.{lightnessWord, chromaWord, axisWord, hueWo
 use Rattle.lines.specs.Lines.{signedFigure}
 use Rattle.lines.specs.Lines.Laws.{axes-length}
 
--- m units are below so many ones
+-- m units are below so many ones, and by one at least, so that no carry comes to them
 abbrev pub Under : (ones m : ℕ) → Type 0
-Under ones m = m < ones * 2 ^ 20
+Under ones m = m + 2 ^ 20 ≤ ones * 2 ^ 20
 
 -- ---- numbers
 

@@ -59,11 +59,11 @@ wholeCase =
     (record { DL = pos 963487; DC = pos 0; DH = pos 0; DE = 963487 })
     L.Lighter C.Equal H.Equal Pass true
 
--- DL = -1.5, DC = -0.00004.. which shows no digit but zeros, DH = -0.0001..
+-- DL = -1.5, DC = -0.0000495.. which shows no digit but zeros, DH = -0.0000505.. which is nearer to -0.0001
 pub otherCase : Judgement
 otherCase =
     saying (record { formula = CIELAB; white = CTwo; l = 500; c = 10000; tolerance = 1500 })
-    (record { DL = negsuc 1572863; DC = negsuc 41; DH = negsuc 104; DE = 1572864 })
+    (record { DL = negsuc 1572863; DC = negsuc 51; DH = negsuc 52; DE = 1572864 })
     L.Darker C.Less (H.Towards Yellower Redder) Near false
 
 pub record ReportCases : Type 0 where
@@ -74,8 +74,8 @@ pub record ReportCases : Type 0 where
       ∷ ascii "white=D65/10\n"
       ∷ ascii "l=1.000\n"
       ∷ ascii "c=1.000\n"
-      ∷ ascii "DE=0.9188\n"
-      ∷ ascii "DL=0.9188\n"
+      ∷ ascii "DE=0.9189\n"
+      ∷ ascii "DL=0.9189\n"
       ∷ ascii "DC=withheld\n"
       ∷ ascii "DH=withheld\n"
       ∷ ascii "lightness=lighter\n"

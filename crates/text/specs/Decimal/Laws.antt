@@ -4,12 +4,16 @@ use mathlib.Core.List.{[], _∷_}
 use Prim.Native.Nat.{ℕ, zero, suc, _+_, _-_, _*_, _/_, _%_, _^_, _≤_, _<_}
 use native.Mathlib.Numerals.{add-one}
 use mathlib.Core.Logic.{_⊎_, inl, inr, ⊎-elim}
-use native.Mathlib.Nat.{eq-zero-or-pos, one-le-pow, pow-suc, pow-zero, mul-lt-mul-of-pos-right}
-use native.Mathlib.Nat.{mul-add-div-right, div-add-mod', div-div-eq-div-mul, div-lt-iff-lt-mul}
+use native.Mathlib.Nat.{eq-zero-or-pos, one-le-pow, pow-suc, pow-zero, mul-le-mul-right}
+use native.Mathlib.Nat.{div-add-mod', div-div-eq-div-mul, div-lt-iff-lt-mul}
 use native.Mathlib.Omega.{arith}
 use borrow.Author.Tests.{lt-ltb, le-ltb}
 use lib.ListN.{length, length-append}
+use Rattle.rounding.specs.Fraction.{div-lt}
+use Rattle.rounding.specs.Nearest.{nearestUp}
+use Rattle.rounding.specs.Nearest.Laws.{nearest-le, nearest-more}
 use Rattle.text.specs.Decimal.{shown, lastDigits, widthIn, width, minusSign, decimalText}
+use Rattle.text.specs.Decimal.Nearest.{shown-by-the-rule}
 use Rattle.text.specs.declared.decimal.Shown.{Shown}
 
 -- ---- what is shown
@@ -17,24 +21,24 @@ use Rattle.text.specs.declared.decimal.Shown.{Shown}
 -- the whole ones and the rest, each by itself, so that no product is large
 pub shown-split :
     (places perOne m : ℕ) → 0 < perOne →
-    shown places perOne m ≡ m / perOne * 10 ^ places + m % perOne * 10 ^ places / perOne
-unfolding shown
+    shown places perOne m ≡ m / perOne * 10 ^ places + nearestUp (m % perOne * 10 ^ places) perOne
 shown-split places perOne m h =
     let ten : ℕ = 10 ^ places in
     let split : m * ten ≡ m / perOne * ten * perOne + m % perOne * ten =
     ap (λ (x : ℕ). x * ten) (sym (div-add-mod' m perOne)) ∙ omega arith in
-    rw split (mul-add-div-right h (m / perOne * ten) (m % perOne * ten))
+    shown-by-the-rule places perOne m h ∙ ap (λ (x : ℕ). nearestUp x perOne) split
+    ∙ nearest-more (m / perOne * ten) (m % perOne * ten) perOne h
 
--- below so many ones, fewer than these are shown
+-- below so many ones, and by one at least, fewer than these are shown: no carry comes to them
 pub shown-whole-lt :
-    (places perOne ones m : ℕ) → 0 < perOne → m < ones * perOne → shown places perOne m / 10 ^ places < ones
-unfolding shown
-shown-whole-lt places perOne ones m h f =
+    (places perOne ones m : ℕ) → 0 < perOne → m + perOne ≤ ones * perOne → shown places perOne m / 10 ^ places < ones
+shown-whole-lt places perOne zero m h f = absurd (omega arith)
+shown-whole-lt places perOne (suc ones) m h f =
     let ten : ℕ = 10 ^ places in
     let some : 0 < ten = one-le-pow places 10 (omega arith) in
-    let scaled : m * ten < ones * ten * perOne = omega (arith, mul-lt-mul-of-pos-right f some) in
-    div-lt-iff-lt-mul {k = ten} {x = m * ten / perOne} {y = ones} some .1
-    (div-lt-iff-lt-mul {k = perOne} {x = m * ten} {y = ones * ten} h .1 scaled)
+    let scaled : m * ten ≤ ones * ten * perOne = omega (arith, mul-le-mul-right ten f) in
+    let most = nearest-le (m * ten) perOne (ones * ten) h scaled in
+    div-lt (shown places perOne m) ten (suc ones) some (omega (arith, most, shown-by-the-rule places perOne m h))
 
 -- ---- digits
 

@@ -109,7 +109,7 @@ module _ (whole places n : ℕ) where
   abbrev q : ℕ
   q = n / 10 ^ places
 
-  decimal-written :
+  pub decimal-written :
       0 < whole → whole ≤ 20 → 0 < places → q < 10 ^ whole →
       decimalOf whole places (decimalText (withPlaces places false n)) ≡ some n
   unfolding decimalText

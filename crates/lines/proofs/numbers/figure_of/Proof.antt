@@ -1,4 +1,4 @@
--- The whole ones and the rest, each in ten-thousandths rounded down, are together the number so rounded.
+-- The whole ones, and the nearest ten-thousandths to the rest, are together the nearest to the number.
 -- Assumes nothing.
 use mathlib.Core.Path.{_≡_, sym, ap, ap₂, _∙_}
 use mathlib.Core.Bool.{Bool, _&&_}
@@ -7,6 +7,7 @@ use Prim.Native.Nat.{ℕ, _+_, _*_, _/_, _%_, _^_}
 use native.Mathlib.Omega.{arith}
 use borrow.Author.Needs.{needs}
 use lib.Dec.{ltb}
+use Rattle.rounding.specs.Nearest.Laws.{nearest-add}
 use Rattle.text.specs.Decimal.{shown}
 use Rattle.text.specs.Decimal.Laws.{shown-split}
 use Rattle.text.specs.declared.decimal.Shown.{Shown}
@@ -14,15 +15,21 @@ use Rattle.lines.specs.Lines.{figure}
 use Rattle.lines.proofs.numbers.figure_of.Statement.{statement}
 use Rattle.lines.proofs.numbers.figure_of.Tie as tie
 
-abbrev ten-thousandths : ℕ → ℕ
-ten-thousandths m = m / 1048576 * 10000 + m % 1048576 * 10000 / 1048576
+abbrev whole : ℕ → ℕ
+whole m = m / 1048576 * 10000
 
-shown-is : (m : ℕ) → ten-thousandths m ≡ shown 4 (2 ^ 20) m
-shown-is m = sym (shown-split 4 (2 ^ 20) m (omega arith))
+abbrev rest : ℕ → ℕ
+rest m = (m % 1048576 * 10000 + 524288) / 1048576
+
+shown-is : (m : ℕ) → whole m + rest m ≡ shown 4 (2 ^ 20) m
+shown-is m =
+    ap (λ (r : ℕ). whole m + r) (sym (nearest-add (m % 1048576 * 10000) 1048576))
+    ∙ sym (shown-split 4 (2 ^ 20) m (omega arith))
 
 figure-is :
-    (below : Bool) (m : ℕ) {minus : Bool} → minus ≡ (below && ltb 0 (ten-thousandths m)) →
-    _≡_ {A = Shown} (record { places = 4; minus = minus; whole = ten-thousandths m / 10000; units = ten-thousandths m })
+    (below : Bool) (m : ℕ) {minus : Bool} → minus ≡ (below && ltb 0 (whole m + rest m)) →
+    _≡_ {A = Shown}
+    (record { places = 4; minus = minus; whole = (whole m + rest m) / 10000; units = whole m + rest m })
     (figure below m)
 figure-is below m e =
     ap₂
@@ -33,9 +40,11 @@ figure-is below m e =
 returns : tie.Need-returns
 returns c =
     let a = c .before .args in
-    let shows : Bool → Bool = λ b. b && ltb 0 (ten-thousandths (a .m)) in
+    let shows : Bool → Bool = λ b. b && ltb 0 (whole (a .m) + rest (a .m)) in
     figure-is (a .below) (a .m)
     (⊎-elim (λ w. w .1 ∙ sym (ap shows (w .0 .taken))) (λ w. w .1 ∙ sym (ap shows (w .0 .left))) (c .if1 .came))
 
 pub figure-of-spec : {M : Type 1} → statement M
-figure-of-spec = tie.close (tie.spec (λ c. search needs) (λ c. search needs) (λ c. search needs) returns)
+figure-of-spec =
+    tie.close
+    (tie.spec (λ c. search needs) (λ c. search needs) (λ c. search needs) (λ c. search needs) returns)
