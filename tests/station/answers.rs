@@ -18,6 +18,7 @@
 //! so a list that was cut short is noticed.
 
 mod calls;
+mod figures;
 mod host;
 mod readings;
 mod runs;
@@ -34,6 +35,7 @@ fn main() {
     host.each_field();
     host.each_length();
     host.each_room();
+    host.each_figure();
     while host.calls < 2_000_000 {
         host.any_run();
     }

@@ -45,3 +45,28 @@ pub fn tolerance_ends(tickets: &mut Tickets) {
         tickets.draft(&draft);
     }
 }
+
+/// Under CIELAB a pair that differs in one way alone, by what is hard to print: a tie, which is an odd
+/// multiple of 1/32, or about half a last digit below a power of ten, where a carry adds a digit.
+pub fn printed_ends(tickets: &mut Tickets) {
+    for step in 0..4_000 {
+        let random = &mut tickets.random;
+        let tie = ONE / 32 * (2 * random.below(1_900) as i64 + 1);
+        let carry = random.pick(&[ONE, 10 * ONE, 100 * ONE]) - 50 + random.within(3);
+        let size = if step % 2 == 0 { tie } else { carry };
+        let (grey, half) = (50 * ONE, size / 2);
+        let mut pair = random.pick(&[
+            [[0, 0, 0], [size, 0, 0]],
+            [[grey, 0, 0], [grey, size, 0]],
+            [[grey, half, -half], [grey, half, half]],
+        ]);
+        if random.one_in(2) {
+            pair.reverse();
+        }
+        let mut draft = random.ticket();
+        draft.formula = 0;
+        draft.space = 1;
+        [draft.reference, draft.test] = pair;
+        tickets.draft(&draft);
+    }
+}

@@ -7,6 +7,7 @@ use crate::paper::conversion::Colour;
 use crate::paper::refusals::Answer;
 use crate::paper::report;
 use crate::paper::settings::{self, Formula};
+use crate::paper::sheet::Sheet;
 use crate::paper::standard::{accepted, place, Standard};
 use crate::paper::ticket::{self, Ticket};
 
@@ -124,7 +125,7 @@ impl Seen {
 
     fn judgement(&mut self, standard: &Standard, test: Colour) {
         let sheet = standard.sheet(test);
-        let vanishes = |figure| (-104..0).contains(&figure) && !standard.withholds();
+        let vanishes = |figure| (-52..0).contains(&figure) && !standard.withholds();
         let [_, a, b] = standard.colour;
         let (square, sixteen) = (a * a + b * b, 16 << 40);
         let (four, cmc) = (
@@ -141,6 +142,36 @@ impl Seen {
             ("achromatic, but not CMC", !cmc && square < sixteen),
             ("DE on an end of near", beyond == 0),
             ("DE from 100 on", sheet.de >= 100 << 20),
+        ]);
+        if !standard.withholds() {
+            self.printing(&sheet);
+        }
+    }
+
+    /// Figures that are printed, and at which the printing could go wrong.
+    fn printing(&mut self, sheet: &Sheet) {
+        let up = |figure: i128| figure > 0 && figure % (1 << 16) == 1 << 15;
+        let longer = |figure: i128| {
+            report::figure(figure).len() > (figure >> 20).to_string().len() + ".0000".len()
+        };
+        // the first of a sign that is shown, and those that show it since they are no longer cut
+        let first = |figure| (-104..=-53).contains(&figure);
+        self.notes([
+            ("DE is a tie", up(sheet.de)),
+            ("DL is a tie", up(sheet.dl)),
+            ("DL is a tie below zero", up(-sheet.dl)),
+            ("DC is a tie", up(sheet.dc)),
+            ("DC is a tie below zero", up(-sheet.dc)),
+            ("DH is a tie", up(sheet.dh)),
+            ("DH is a tie below zero", up(-sheet.dh)),
+            ("a carry adds a digit to DE", longer(sheet.de)),
+            (
+                "a carry adds a digit to DH",
+                sheet.dh > 0 && longer(sheet.dh),
+            ),
+            ("-0.0001 of DL", first(sheet.dl)),
+            ("-0.0001 of DC", first(sheet.dc)),
+            ("-0.0001 of DH", first(sheet.dh)),
         ]);
     }
 
