@@ -41,13 +41,13 @@ extern "C" {
 #endif
 
 /* THE VERSION
- *     SHADE_VERSION is 100 * MAJOR + MINOR, a number for #if: 1.1 is 101, and SHADE_VERSION >= 102 asks for 1.2 or
+ *     SHADE_VERSION is 100 * MAJOR + MINOR, a number for #if: 1.2 is 102, and SHADE_VERSION >= 103 asks for 1.3 or
  *     later. It is this header's; shade_version() answers that of the library that the host was linked with. Where the
  *     two differ in the major number, the host was compiled for other calls, and should not go on. */
 #define SHADE_VERSION_MAJOR 1
-#define SHADE_VERSION_MINOR 1
+#define SHADE_VERSION_MINOR 2
 #define SHADE_VERSION (100 * SHADE_VERSION_MAJOR + SHADE_VERSION_MINOR)
-#define SHADE_VERSION_STRING "1.1"
+#define SHADE_VERSION_STRING "1.2"
 uint32_t shade_version(void);
 
 /* formula: a figure or a tolerance of one is in another unit than one of another: the two are not to be compared. */
@@ -146,10 +146,10 @@ static inline const char *shade_refusal_text(uint32_t number)
  *         white=D65/10                         D65/10, D65/2, C/10 or C/2
  *         l=2.000                              as loaded, under CIELAB too
  *         c=1.000
- *         DE=0.9991                            four decimals, the magnitude rounded down; so are the next three
- *         DL=-0.7836                           test specimen minus reference
+ *         DE=0.9992                            the nearest four decimals, a tie away from zero; so are the next three
+ *         DL=-0.7837                           test specimen minus reference
  *         DC=0.5777                            or withheld
- *         DH=0.2245                            or withheld
+ *         DH=0.2246                            or withheld
  *         lightness=darker                     lighter, darker or equal
  *         chroma=more                          more, less, equal or withheld
  *         hue=redder(yellower)                 redder, yellower, greener or bluer, and the next in brackets; or equal;
@@ -157,7 +157,9 @@ static inline const char *shade_refusal_text(uint32_t number)
  *         verdict=near                         pass, fail, or near: DE is within 0.002 of the tolerance
  *
  *     The four are withheld under CMC where the reference is achromatic: its a* and b*, squared, sum up to 16 at most.
- *     A number has a minus only if a digit is shown that is not 0. */
+ *     A number has a minus only if a digit is shown that is not 0. The verdict and the names never go by the printed
+ *     number: DE=1.0020 can be near or fail at a tolerance of 1000. Before version 1.2 the four were cut after four
+ *     decimals. */
 #define SHADE_REPORT_BYTES 161
 #define SHADE_REPORT_LINES 12
 

@@ -6,12 +6,12 @@ pub major : ℕ
 major = 1
 
 pub minor : ℕ
-minor = 1
+minor = 2
 
 pub version : ℕ
 version = 100 * major + minor
 
--- of 1.1 it is 101
-pub one-point-one : 101 ≡ version
+-- of 1.2 it is 102
+pub in-figures : 102 ≡ version
 unfolding version major minor
-one-point-one = refl
+in-figures = refl
