@@ -10,7 +10,8 @@ use Rattle.rounding.specs.Nearest.{nearestUp}
 use Rattle.rounding.specs.Nearest.Laws.{nearest, nearest-unique}
 use Rattle.text.specs.Decimal.{shown}
 
--- units of 2 ^ -20 in ten-thousandths: 0.91885.., and 1/32, which is midway between two
+-- two figures first, by which another rule is refused in digits. Units of 2 ^ -20 in ten-thousandths: 0.91885.., and
+-- 1/32, which is midway between two
 pub record ShownCases : Type 0 where
   pub nearer : shown 4 (2 ^ 20) 963487 ≡ 9189
   pub midway : shown 4 (2 ^ 20) 32768 ≡ 313
