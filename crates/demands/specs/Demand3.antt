@@ -13,6 +13,7 @@ use mathlib.Core.Path.{_≡_, sym, subst}
 use mathlib.Core.List.{List}
 use Prim.Native.Nat.{ℕ, _-_, _*_, _^_, _≤_, _<_}
 use native.Mathlib.Omega.{arith}
+use Rattle.rounding.specs.Nearest.{apart}
 use Rattle.colour.specs.Conversion.Ranges.{OnGrid}
 use Rattle.colour.specs.declared.conversion.GridColour.{GridColour}
 use Rattle.colour.specs.declared.placed.Reading.{Reading}
@@ -20,7 +21,7 @@ use Rattle.sheet.specs.Settings.{Factor, Tolerance}
 use Rattle.sheet.specs.Sheet.{sheet, verdict}
 use Rattle.sheet.specs.declared.formula.Formula.{Formula}
 use Rattle.sheet.specs.declared.verdict.Verdict.the-variants.{Near, Pass, Fail}
-use Rattle.finer.specs.Finer.{apart, VerdictKept, no-finer-sheet-changes-a-verdict}
+use Rattle.finer.specs.Finer.{VerdictKept, no-finer-sheet-changes-a-verdict}
 use Rattle.ticket.specs.Ticket.{ticketOf}
 use Rattle.standard.specs.Judgement.{judgementOf, Specimen}
 use Rattle.standard.specs.Judgement.Laws.{verdict-is}

@@ -13,6 +13,7 @@ use mathlib.Core.Path.{_≡_}
 use Prim.Native.Nat.{ℕ, _+_, _-_, _*_, _^_, _≤_, _<_}
 use native.Mathlib.Omega.{arith}
 use lib.Pow.{pow-pos}
+use Rattle.rounding.specs.Nearest.{apart}
 use Rattle.colour.specs.declared.conversion.GridColour.{GridColour}
 use Rattle.sheet.specs.Settings.{Tolerance}
 use Rattle.sheet.specs.Ranges.{InRange}
@@ -25,10 +26,6 @@ use Rattle.finer.specs.Loose.Lines.{pow-is-unit}
 use Rattle.finer.specs.Moves.{DE-moves, moved-lt, pass-kept, fail-kept}
 pub mod Reached
 pub mod Sharp
-
--- how far two numbers are apart: one of the two differences stops at 0
-abbrev pub apart : (x y : ℕ) → ℕ
-apart x y = (x - y) + (y - x)
 
 apart-le : {x y m : ℕ} → x ≤ y + m → y ≤ x + m → apart x y ≤ m
 apart-le h g = omega arith

@@ -15,7 +15,7 @@ pub mod Signed
 pub mod Laws
 
 -- m units, of which perOne make one, counted in units of 10 ^ -places: to the nearest, a tie upwards, as a reading's
--- magnitude is. Every figure that is printed is rounded here.
+-- magnitude is. Every figure of a report is rounded here.
 unfoldable pub shown : (places perOne m : ℕ) → ℕ
 shown places perOne m = nearestUp (m * 10 ^ places) perOne
 

@@ -20,11 +20,11 @@ use Rattle.sheet.specs.declared.formula.Formula.the-variants.{CIELAB, CIE94, CM
 use Rattle.lines.specs.Lines.Longest.{Under}
 use Rattle.report.specs.Report.Longest.{UnderCielab, UnderFactors, Figures}
 
--- ---- line 8, below a number of ones: the shift is at most m, and what it is divided by at least e
+-- what is below so many ones is below one more by one at least, as `Under` asks
+under-of-lt : (ones : ℕ) {x : ℕ} → x < ones * 2 ^ 20 → Under (ones + 1) x
+under-of-lt ones h = omega (arith, h)
 
--- and so below one more, by one at least
-under : (ones : ℕ) {x : ℕ} → x < ones * 2 ^ 20 → Under (ones + 1) x
-under ones h = omega (arith, h)
+-- ---- line 8, below a number of ones: the shift is at most m, and what it is divided by at least e
 
 module _ (ones m e : ℕ) (some : 0 < e) where
   component-lt :
@@ -49,7 +49,7 @@ under-cielab C {Δ} h =
     let DH = componentH-lt 725 759250125 (2 ^ 20) (omega arith) (2 ^ 20) (Δ .H) (h .H) (omega arith) (omega arith) in
     record {
       DE =
-          under 999
+          under-of-lt 999
           (root-lt 2 _ (999 * 2 ^ 20) (omega arith)
           (omega (arith, mul-le-mul DL DL, mul-le-mul DC DC, mul-le-mul DH DH)));
       DL = omega arith;
@@ -68,12 +68,12 @@ under-factors {Δ = Δ} hl hc s m =
       DE = omega (arith, total-lt p);
       DL = omega arith;
       DL-at-ten =
-          λ e. under 99
+          λ e. under-of-lt 99
           (component-lt 99 (120 * 2 ^ 20) (10000 * 535822) (omega arith) _ _ (Δ .L) (m .L)
           (rw e (omega (arith, s .SL))) (omega arith));
       DC = omega arith;
       DC-at-ten =
-          λ e. under 99
+          λ e. under-of-lt 99
           (component-lt 99 (2 ^ 29) (10000 * 668991) (omega arith) _ _ (Δ .C) (m .C) (rw e (omega (arith, s .SC)))
           (omega arith));
       DH = omega arith;

@@ -12,15 +12,15 @@ use Rattle.text.specs.declared.decimal.Shown.{Shown}
 use Rattle.lines.specs.Lines.{figure, signedFigure}
 
 -- d shows m units of 2 ^ -20, below zero if so it is said
-pub record ShowsNearest (below : Bool) (m : ℕ) (d : Shown) : Type 0 where
+pub record FigureNearest (below : Bool) (m : ℕ) (d : Shown) : Type 0 where
   pub places : d .places ≡ 4
   pub units : ShownNearest 4 (2 ^ 20) m (d .units)
   pub whole : d .whole ≡ d .units / 10 ^ 4
   pub sign : d .minus ≡ (below && ltb 0 (d .units))
 
-pub figure-nearest : (below : Bool) (m : ℕ) → ShowsNearest below m (figure below m)
+pub figure-nearest : (below : Bool) (m : ℕ) → FigureNearest below m (figure below m)
 figure-nearest below m =
     record { places = refl; units = shown-nearest 4 (2 ^ 20) m (omega arith); whole = refl; sign = refl }
 
-pub signed-figure-nearest : (z : ℤ) → ShowsNearest (minus z) ∣ z ∣ (signedFigure z)
+pub signed-figure-nearest : (z : ℤ) → FigureNearest (minus z) ∣ z ∣ (signedFigure z)
 signed-figure-nearest z = figure-nearest (minus z) ∣ z ∣

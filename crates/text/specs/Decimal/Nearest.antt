@@ -1,12 +1,12 @@
--- THE FIGURE THAT IS SHOWN IS THE NEAREST, over the number of decimals and over the unit; and no other is. All else
--- that is known of `shown` rests on this. `Decimal/Signed.antt` has it with its sign. Assumes nothing.
+-- THE FIGURE THAT IS SHOWN IS THE NEAREST, over the number of decimals and over the unit; and no other is. No law but
+-- this opens `shown`; cases compute it. `Decimal/Signed.antt` has it with its sign. Assumes nothing.
 use mathlib.Core.Path.{_≡_, refl, sym, _∙_}
 use mathlib.Core.Logic.{⊎-elim}
-use Prim.Native.Nat.{ℕ, _+_, _-_, _*_, _/_, _^_, _≤_, _<_}
+use Prim.Native.Nat.{ℕ, _+_, _*_, _/_, _^_, _≤_, _<_}
 use native.Mathlib.Nat.{eq-or-lt-of-le, lt-of-mul-lt-mul-right}
 use native.Mathlib.Omega.{arith}
 use Rattle.rounding.specs.Fraction.{fraction-law}
-use Rattle.rounding.specs.Nearest.{nearestUp}
+use Rattle.rounding.specs.Nearest.{nearestUp, apart}
 use Rattle.rounding.specs.Nearest.Laws.{nearest, nearest-unique}
 use Rattle.text.specs.Decimal.{shown}
 
@@ -19,10 +19,6 @@ pub record ShownCases : Type 0 where
 pub shown-cases : ShownCases
 unfolding shown
 shown-cases = record { nearer = refl; midway = refl }
-
--- how far two numbers are apart: one of the two differences is 0
-abbrev pub apart : ℕ → ℕ → ℕ
-apart x y = (x - y) + (y - x)
 
 -- s last digits are shown of m units, of which perOne make one. Where one is perOne * 10 ^ places, the figure is
 -- m * 10 ^ places, what is shown of it s * perOne, and one last digit perOne
