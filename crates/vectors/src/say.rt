@@ -1,5 +1,6 @@
 // What is printed.
 use crate::tables::Paper;
+use lines::numbers::signed_figure;
 use names::Axis;
 use names::Chroma;
 use names::Hue;
@@ -19,21 +20,19 @@ fn digit(d: u64) {
     io::write_all(1, &[48 + (d % 10) as u8]);
 }
 
-// A figure of grid units, its magnitude rounded down to four decimals.
+// A figure of grid units, as a report has it.
 fn figure(key: &[u8], z: i64) {
-    let m = magnitude(z);
-    let whole = m / Grid::UNITS_IN_ONE;
-    let part = m % Grid::UNITS_IN_ONE * 10000 / Grid::UNITS_IN_ONE;
+    let d = signed_figure(z);
     text(key);
-    if z < 0 {
+    if d.minus {
         text(b"-");
     }
-    number(whole);
+    number(d.whole);
     text(b".");
-    digit(part / 1000);
-    digit(part / 100);
-    digit(part / 10);
-    digit(part);
+    digit(d.units / 1000);
+    digit(d.units / 100);
+    digit(d.units / 10);
+    digit(d.units);
 }
 
 // Whether a figure of grid units has the paper's sign and is within 0.01 of the paper's ten-thousandths.
