@@ -65,7 +65,8 @@ static void raster(Panel panel)
            SIDE);
 }
 
-/* How far one can go from the standard that way before the verdict is no longer pass, or DE reaches a figure. */
+/* How far one can go from the standard that way before the verdict is no longer pass, or the printed DE reaches a
+ * figure. */
 static double reach(Point way, double figure)
 {
     double low = 0, high = 4;
@@ -98,7 +99,9 @@ static void mark(Panel panel, Point test, double right, double down, const char 
 {
     Point at = placed(panel, test);
     char text[32];
-    snprintf(text, sizeof text, "%s %s", de_line(test), answer("\nverdict=", test));
+    /* one after the other, since both go by the one report */
+    int length = snprintf(text, sizeof text, "%s ", de_line(test));
+    snprintf(text + length, sizeof text - (size_t)length, "%s", answer("\nverdict=", test));
     dot(at);
     words(at.a + right, at.b + down, anchor, "#000", text);
 }

@@ -40,7 +40,7 @@ fn on_the_grid(colour: Colour) -> Reading {
 
 impl Host {
     /// Every tie up to the greatest L*; and the figures on either side of a change of the last digit:
-    /// the first digits, any, and those whose carry goes through to the whole ones or adds a digit.
+    /// the first digits, any, and those whose carry goes through several digits or adds one.
     pub fn each_figure(&mut self) {
         self.start([[0; STATION]; 2]);
         for odd in (1..120 * 32).step_by(2) {

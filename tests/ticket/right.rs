@@ -47,7 +47,8 @@ pub fn tolerance_ends(tickets: &mut Tickets) {
 }
 
 /// Under CIELAB a pair that differs in one way alone, by what is hard to print: a tie, which is an odd
-/// multiple of 1/32, or about half a last digit below a power of ten, where a carry adds a digit.
+/// multiple of 1/32, or about half a last digit below a power of ten, where a carry goes through, and
+/// from 10 on adds a digit.
 pub fn printed_ends(tickets: &mut Tickets) {
     for step in 0..4_000 {
         let random = &mut tickets.random;

@@ -154,7 +154,7 @@ impl Seen {
         let longer = |figure: i128| {
             report::figure(figure).len() > (figure >> 20).to_string().len() + ".0000".len()
         };
-        // the first of a sign that is shown, and those that show it since they are no longer cut
+        // a minus is shown that cut figures would not show
         let first = |figure| (-104..=-53).contains(&figure);
         self.notes([
             ("DE is a tie", up(sheet.de)),
