@@ -43,7 +43,8 @@ extern "C" {
 /* THE VERSION
  *     SHADE_VERSION is 100 * MAJOR + MINOR, a number for #if: 1.2 is 102, and SHADE_VERSION >= 103 asks for 1.3 or
  *     later. It is this header's; shade_version() answers that of the library that the host was linked with. Where the
- *     two differ in the major number, the host was compiled for other calls, and should not go on. */
+ *     two differ in the major number, the host was compiled for other calls, and should not go on. A higher minor
+ *     number: calls were added, or a report can have other digits, as since 1.2, whose figures are the nearest. */
 #define SHADE_VERSION_MAJOR 1
 #define SHADE_VERSION_MINOR 2
 #define SHADE_VERSION (100 * SHADE_VERSION_MAJOR + SHADE_VERSION_MINOR)
@@ -158,8 +159,8 @@ static inline const char *shade_refusal_text(uint32_t number)
  *
  *     The four are withheld under CMC where the reference is achromatic: its a* and b*, squared, sum up to 16 at most.
  *     A number has a minus only if a digit is shown that is not 0. The verdict and the names never go by the printed
- *     number: DE=1.0020 can be near or fail at a tolerance of 1000. Before version 1.2 the four were cut after four
- *     decimals. */
+ *     number: DE=1.0020 can be near or fail at a tolerance of 1000. Before version 1.2 DE, DL, DC and DH were cut after
+ *     four decimals. */
 #define SHADE_REPORT_BYTES 161
 #define SHADE_REPORT_LINES 12
 
