@@ -1,13 +1,12 @@
 -- THE FIGURE THAT IS SHOWN IS THE NEAREST, over the number of decimals and over the unit; and no other is. No law but
 -- this opens `shown`; cases compute it. `Decimal/Signed.antt` has it with its sign. Assumes nothing.
 use mathlib.Core.Path.{_≡_, refl, sym, _∙_}
-use mathlib.Core.Logic.{⊎-elim}
 use Prim.Native.Nat.{ℕ, _+_, _*_, _/_, _^_, _≤_, _<_}
-use native.Mathlib.Nat.{eq-or-lt-of-le, lt-of-mul-lt-mul-right}
+use native.Mathlib.Nat.{lt-of-mul-lt-mul-right}
 use native.Mathlib.Omega.{arith}
 use Rattle.rounding.specs.Fraction.{fraction-law}
-use Rattle.rounding.specs.Nearest.{nearestUp, apart}
-use Rattle.rounding.specs.Nearest.Laws.{nearest, nearest-unique}
+use Rattle.rounding.specs.Nearest.{nearestUp}
+use Rattle.rounding.specs.Nearest.Laws.{Closest, nearest, closest, closest-unique}
 use Rattle.text.specs.Decimal.{shown}
 
 -- two figures first, by which another rule is refused in digits. Units of 2 ^ -20 in ten-thousandths: 0.91885.., and
@@ -21,34 +20,22 @@ unfolding shown
 shown-cases = record { nearer = refl; midway = refl }
 
 -- s last digits are shown of m units, of which perOne make one. Where one is perOne * 10 ^ places, the figure is
--- m * 10 ^ places, what is shown of it s * perOne, and one last digit perOne
-pub record ShownNearest (places perOne m s : ℕ) : Type 0 where
-  -- twice the distance is at most one last digit
-  pub close : 2 * apart (s * perOne) (m * 10 ^ places) ≤ perOne
-  -- and where it is one, which is a tie, the greater magnitude is shown
-  pub tie : 2 * apart (s * perOne) (m * 10 ^ places) ≡ perOne → m * 10 ^ places < s * perOne
+-- m * 10 ^ places, what is shown of it s * perOne, and one last digit perOne: twice the distance of the two is at most
+-- one last digit, and at a tie the greater magnitude is shown
+abbrev pub ShownNearest : (places perOne m s : ℕ) → Type 0
+ShownNearest places perOne m s = Closest (m * 10 ^ places) perOne s
 
 module _ (places perOne m : ℕ) (some : 0 < perOne) where
   pub shown-nearest : ShownNearest places perOne m (shown places perOne m)
   unfolding shown
-  shown-nearest =
-      let h = nearest (m * 10 ^ places) perOne some in
-      record { close = omega (arith, h .low, h .high); tie = λ e. omega (arith, h .low, h .high) }
+  shown-nearest = closest (m * 10 ^ places) perOne some
 
   -- a reading's rule says the same
-  by-the-rule : {s : ℕ} → ShownNearest places perOne m s → s ≡ nearestUp (m * 10 ^ places) perOne
-  by-the-rule {s} h =
-      nearest-unique (m * 10 ^ places) perOne s some
-      (record {
-        low = omega (arith, h .close);
-        high = ⊎-elim (λ e. omega (arith, h .tie e)) (λ less. omega arith) (eq-or-lt-of-le (h .close));
-      })
-
   pub shown-by-the-rule : shown places perOne m ≡ nearestUp (m * 10 ^ places) perOne
-  shown-by-the-rule = by-the-rule shown-nearest
+  shown-by-the-rule = closest-unique (m * 10 ^ places) perOne (shown places perOne m) some shown-nearest
 
   pub no-other-shown : (s : ℕ) → ShownNearest places perOne m s → s ≡ shown places perOne m
-  no-other-shown s h = by-the-rule h ∙ sym shown-by-the-rule
+  no-other-shown s h = closest-unique (m * 10 ^ places) perOne s some h ∙ sym shown-by-the-rule
 
   -- cut after so many places, it is the same or one last digit less
   pub shown-or-one-less :

@@ -18,18 +18,18 @@ use Rattle.lines.proofs.numbers.figure_of.Tie as tie
 abbrev whole : ℕ → ℕ
 whole m = m / 1048576 * 10000
 
-abbrev rest : ℕ → ℕ
-rest m = (m % 1048576 * 10000 + 524288) / 1048576
+abbrev rounded-rest : ℕ → ℕ
+rounded-rest m = (m % 1048576 * 10000 + 524288) / 1048576
 
-shown-is : (m : ℕ) → whole m + rest m ≡ shown 4 (2 ^ 20) m
+shown-is : (m : ℕ) → whole m + rounded-rest m ≡ shown 4 (2 ^ 20) m
 shown-is m =
     ap (λ (r : ℕ). whole m + r) (sym (nearest-add (m % 1048576 * 10000) 1048576))
     ∙ sym (shown-split 4 (2 ^ 20) m (omega arith))
 
 figure-is :
-    (below : Bool) (m : ℕ) {minus : Bool} → minus ≡ (below && ltb 0 (whole m + rest m)) →
+    (below : Bool) (m : ℕ) {minus : Bool} → minus ≡ (below && ltb 0 (whole m + rounded-rest m)) →
     _≡_ {A = Shown}
-    (record { places = 4; minus = minus; whole = (whole m + rest m) / 10000; units = whole m + rest m })
+    (record { places = 4; minus = minus; whole = (whole m + rounded-rest m) / 10000; units = whole m + rounded-rest m })
     (figure below m)
 figure-is below m e =
     ap₂
@@ -40,7 +40,7 @@ figure-is below m e =
 returns : tie.Need-returns
 returns c =
     let a = c .before .args in
-    let shows : Bool → Bool = λ b. b && ltb 0 (whole (a .m) + rest (a .m)) in
+    let shows : Bool → Bool = λ b. b && ltb 0 (whole (a .m) + rounded-rest (a .m)) in
     figure-is (a .below) (a .m)
     (⊎-elim (λ w. w .1 ∙ sym (ap shows (w .0 .taken))) (λ w. w .1 ∙ sym (ap shows (w .0 .left))) (c .if1 .came))
 
