@@ -1,4 +1,5 @@
-//! Tolerances and test specimens that bring DE to where it is decided whether it is near.
+//! Tolerances and test specimens that bring DE to where it is decided whether it is near, and pairs
+//! that bring one figure to a chosen size.
 
 use super::paper::settings::Formula;
 use super::paper::sheet::{semi_axes, PLACES};
@@ -35,4 +36,15 @@ pub fn least_delta_l(standard: &Standard, units: i64) -> i64 {
 /// 1000 times how far DE, in units, lies beyond what is near to a tolerance in thousandths.
 pub fn beyond_near(de: i128, tolerance: i128) -> i128 {
     (1_000 * de - (tolerance << 20)).abs() - (2 << 20)
+}
+
+/// Pairs of L*, a*, b* that differ by this size in one way alone under CIELAB: in DL, in DC, in DH.
+/// The third is a quarter turn, from one corner of a square to the next, so DH is even.
+pub fn one_way_apart(size: i64, one: i64) -> [[[i64; 3]; 2]; 3] {
+    let (grey, half) = (50 * one, size / 2);
+    [
+        [[0, 0, 0], [size, 0, 0]],
+        [[grey, 0, 0], [grey, size, 0]],
+        [[grey, half, -half], [grey, half, half]],
+    ]
 }

@@ -1,6 +1,7 @@
 //! Figures at which the printing could go wrong (SCOPE 10.3): ties, and those beside which another
 //! digit is shown.
 
+use crate::aimed::one_way_apart;
 use crate::host::{Host, Room};
 use crate::paper::conversion::Colour;
 use crate::paper::readings::{handed_back, GRID_ONE as ONE};
@@ -17,19 +18,8 @@ fn least_above(shown: i64) -> i64 {
     ((2 * shown + 1) * ONE + 19_999) / 20_000
 }
 
-/// Two colours, and the one of DL, DC and DH in which they differ.
-type Pair = ([Colour; 2], fn(&Sheet) -> i128);
-
-/// Pairs that differ by so many units in one way alone under CIELAB. DH is even: the third is a
-/// quarter turn, from one corner of a square to the next, and half a side is a whole number.
-fn pairs(units: i64) -> [Pair; 3] {
-    let (grey, half) = (50 * ONE, units / 2);
-    [
-        ([[0, 0, 0], [units, 0, 0]], |sheet| sheet.dl),
-        ([[grey, 0, 0], [grey, units, 0]], |sheet| sheet.dc),
-        ([[grey, half, -half], [grey, half, half]], |sheet| sheet.dh),
-    ]
-}
+/// DL, DC and DH, in the order of the pairs that differ in them.
+const PARTS: [fn(&Sheet) -> i128; 3] = [|sheet| sheet.dl, |sheet| sheet.dc, |sheet| sheet.dh];
 
 fn on_the_grid(colour: Colour) -> Reading {
     Reading {
@@ -59,10 +49,10 @@ impl Host {
 
     /// Judges pairs that differ by so many units, each way round, so with either sign.
     fn figure(&mut self, units: i64) {
-        for ([first, second], figure) in pairs(units) {
+        for ([first, second], part) in one_way_apart(units, ONE).into_iter().zip(PARTS) {
             for (reference, test) in [(first, second), (second, first)] {
                 self.one_figure(reference, test, |sheet| {
-                    let size = figure(sheet).unsigned_abs() as i64;
+                    let size = part(sheet).unsigned_abs() as i64;
                     assert!(size == units || size == units / 2 * 2, "{size} for {units}");
                 });
             }

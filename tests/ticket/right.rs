@@ -1,5 +1,6 @@
 //! Tickets whose text is right.
 
+use crate::aimed::one_way_apart;
 use crate::readings::{ONE, SIDE};
 use crate::records::Tickets;
 
@@ -55,12 +56,7 @@ pub fn printed_ends(tickets: &mut Tickets) {
         let tie = ONE / 32 * (2 * random.below(1_900) as i64 + 1);
         let carry = random.pick(&[ONE, 10 * ONE, 100 * ONE]) - 50 + random.within(3);
         let size = if step % 2 == 0 { tie } else { carry };
-        let (grey, half) = (50 * ONE, size / 2);
-        let mut pair = random.pick(&[
-            [[0, 0, 0], [size, 0, 0]],
-            [[grey, 0, 0], [grey, size, 0]],
-            [[grey, half, -half], [grey, half, half]],
-        ]);
+        let mut pair = random.pick(&one_way_apart(size, ONE));
         if random.one_in(2) {
             pair.reverse();
         }
