@@ -19,7 +19,7 @@ use Rattle.colour.specs.declared.placed.Placed.the-variants.{At}
 use Rattle.colour.specs.declared.placed.Reading.{Reading}
 use Rattle.sheet.specs.Sheet.{chromaOf, shift, sheet, comparison, verdict}
 use Rattle.sheet.specs.declared.settings.Settings.{Settings}
-use Rattle.names.specs.Names.{lightnessName, chromaName, hueName}
+use Rattle.names.specs.Names.{lightnessName, chromaName, hueName, withheldBy}
 use Rattle.ticket.specs.Ticket.{ticketOf}
 use Rattle.ticket.specs.Ticket.Grammar.{Consists}
 use Rattle.ticket.specs.Ticket.Grammar.Right.{right-exactly}
@@ -27,7 +27,7 @@ use Rattle.ticket.specs.declared.lines.Ticket.{Ticket}
 use Rattle.ticket.specs.declared.lines.Parsed.the-variants.{Right}
 use Rattle.standard.specs.Acceptance.{settingsOf}
 use Rattle.standard.specs.Acceptance.Laws.{accepted-made}
-use Rattle.standard.specs.Judgement.{judgementOf, withheldBy}
+use Rattle.standard.specs.Judgement.{judgementOf}
 use Rattle.standard.specs.Judgement.Laws.{verdict-is}
 use Rattle.standard.specs.Figures.{referenceAnswer, specimenAnswer}
 use Rattle.standard.specs.Figures.Exact.{ReferenceExact, SpecimenExact}

@@ -1,6 +1,6 @@
--- docs/SCOPE.md 7: how the test specimen differs from the reference, in words. The hue's name is the rule of turning
--- itself; `Names/Laws.antt` shows that the signs of a and b tell which axis is met, and that it is always just one.
--- Assumes nothing.
+-- docs/SCOPE.md 7: how the test specimen differs from the reference, in words, and where a report withholds them. The
+-- hue's name is the rule of turning itself; `Names/Laws.antt` shows that the signs of a and b tell which axis is met,
+-- and that it is always just one. Assumes nothing.
 use mathlib.Core.Bool.{Bool, true, false, not, cond, _&&_}
 use Prim.Native.Nat.{_+_, _*_, _^_}
 use lib.Dec.{leb}
@@ -9,6 +9,8 @@ use lib.Signed.{ltZ}
 use Rattle.rounding.specs.Signed.{square, minus}
 use Rattle.colour.specs.declared.conversion.GridColour.{GridColour}
 use Rattle.sheet.specs.Sheet.{sameHue, cross, dot, crossOf, dotOf}
+use Rattle.sheet.specs.declared.formula.Formula.{Formula}
+use Rattle.sheet.specs.declared.formula.Formula.the-variants.{CIELAB, CIE94, CMC}
 use Rattle.names.specs.declared.Lightness as Lightness
 use Rattle.names.specs.declared.Chroma as Chroma
 use Rattle.names.specs.declared.Axis.{Axis}
@@ -74,6 +76,14 @@ hueNamed cross dot a b =
 unfoldable pub hueName : (R T : GridColour) → Hue.Hue
 hueName R T = hueNamed (crossOf R T) (dotOf R T) (R .a .0) (R .b .0)
 
--- ---- the reference has a² + b² at most 16, tested exactly: in grid units, of which one has 2 ^ 20
+-- ---- achromatic, and withheld
+
+-- the reference has a² + b² at most 16, tested exactly: in grid units, of which one has 2 ^ 20
 unfoldable pub achromatic : (R : GridColour) → Bool
 achromatic R = leb (square (R .a .0) + square (R .b .0)) (16 * (2 ^ 20 * 2 ^ 20))
+
+-- the reference is achromatic, under CMC: a report then withholds DC, DH and their names
+abbrev pub withheldBy : Formula → (R : GridColour) → Bool
+withheldBy CIELAB R = false
+withheldBy CIE94 R = false
+withheldBy CMC R = achromatic R

@@ -1,10 +1,12 @@
-// SCOPE 7: how the test specimen differs from the reference, in words.
+// SCOPE 7: how the test specimen differs from the reference, in words, and where a report withholds them.
 use colour::conversion::GridColour;
 use reading::grid::Grid;
 use rounding::signed::magnitude;
+use sheet::formula::Formula;
 use sheet::shift::same_hue;
 ghost use mathlib.Core.Path.{_≡_};
 ghost use Rattle.names.specs.Names.{lightnessName, chromaName, firstMet, nextMet, hueNamed, achromatic};
+ghost use Rattle.names.specs.Names.{withheldBy};
 ghost use mathlib.Core.Bool.{true, false};
 
 pub enum Lightness {
@@ -130,7 +132,7 @@ const FOUR: u64 = 4 * Grid::UNITS_IN_ONE;
 const SIXTEEN: u64 = FOUR * FOUR;
 
 // Whether a reference has a² + b² at most 16: neither is then beyond 4.
-pub fn is_achromatic(r: GridColour) -> bool
+fn is_achromatic(r: GridColour) -> bool
     ensures { λ y. ⌜ y ≡ achromatic r ⌝ }
 {
     let a = magnitude(r.a.0);
@@ -142,4 +144,15 @@ pub fn is_achromatic(r: GridColour) -> bool
         return false;
     }
     a * a + b * b <= SIXTEEN
+}
+
+// Whether a report leaves out DC, DH and their names: under CMC, where the reference is achromatic.
+pub fn is_withheld(formula: Formula, r: GridColour) -> bool
+    ensures { λ y. ⌜ y ≡ withheldBy formula r ⌝ }
+{
+    match formula {
+        Formula::CIELAB => false,
+        Formula::CIE94 => false,
+        Formula::CMC => is_achromatic(r),
+    }
 }

@@ -1,5 +1,4 @@
 -- docs/SCOPE.md 6, 7: what a judgement of a test specimen by a standard comes to. Assumes nothing.
-use mathlib.Core.Bool.{Bool, false}
 use Prim.Native.Nat.{ℕ}
 use Rattle.colour.specs.Conversion.Ranges.{OnGrid}
 use Rattle.colour.specs.declared.conversion.GridColour.{GridColour}
@@ -7,22 +6,14 @@ use Rattle.colour.specs.declared.placed.Placed.{Placed}
 use Rattle.colour.specs.declared.placed.Placed.the-variants as P
 use Rattle.sheet.specs.Sheet.{comparison, toleranceOn, verdictOn}
 use Rattle.sheet.specs.declared.comparison.Comparison.{Comparison}
-use Rattle.sheet.specs.declared.formula.Formula.{Formula}
-use Rattle.sheet.specs.declared.formula.Formula.the-variants.{CIELAB, CIE94, CMC}
 use Rattle.sheet.specs.declared.settings.Settings.{Settings}
-use Rattle.names.specs.Names.{lightnessName, chromaName, hueName, achromatic}
+use Rattle.names.specs.Names.{lightnessName, chromaName, hueName, withheldBy}
 use Rattle.standard.specs.declared.accept.Standard.{Standard}
 use Rattle.standard.specs.declared.judge.Judgement.{Judgement}
 use Rattle.standard.specs.declared.judge.Outcome.{Outcome}
 use Rattle.standard.specs.declared.judge.Outcome.the-variants.{Refused, Judged}
 use Rattle.standard.specs.Acceptance.{Valid, PlacedOn}
 pub mod Laws
-
--- the reference is achromatic, under CMC: a report then withholds DC, DH and their names
-abbrev pub withheldBy : Formula → (R : GridColour) → Bool
-withheldBy CIELAB R = false
-withheldBy CIE94 R = false
-withheldBy CMC R = achromatic R
 
 -- the sheet, the names and the verdict, all from the standard itself
 unfoldable pub judgementOf : Standard → (T : GridColour) → Judgement

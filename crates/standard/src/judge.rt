@@ -8,14 +8,13 @@ use names::Hue;
 use names::Lightness;
 use names::chroma_name;
 use names::hue_name;
-use names::is_achromatic;
+use names::is_withheld;
 use names::lightness_name;
 use sheet::comparison::Comparison;
-use sheet::formula::Formula;
 use sheet::scaled::Scaled;
 use sheet::verdict::Verdict;
 ghost use mathlib.Core.Path.{_≡_};
-ghost use Rattle.standard.specs.Judgement.{Judgeable, Specimen, withheldBy, judgementOf, outcome};
+ghost use Rattle.standard.specs.Judgement.{Judgeable, Specimen, judgementOf, outcome};
 
 // All that a judgement finds, with the standard that it goes by.
 pub struct Judgement {
@@ -34,17 +33,6 @@ pub struct Judgement {
 pub enum Outcome {
     Refused(u32),
     Judged(Judgement),
-}
-
-// Whether the reference is achromatic, under CMC.
-fn is_withheld(formula: Formula, colour: GridColour) -> bool
-    ensures { λ r. ⌜ r ≡ withheldBy formula colour ⌝ }
-{
-    match formula {
-        Formula::CIELAB => false,
-        Formula::CIE94 => false,
-        Formula::CMC => is_achromatic(colour),
-    }
 }
 
 // The sheet, the names and the verdict: the semi-axes are worked out anew from the standard.

@@ -10,14 +10,14 @@ use Rattle.sheet.specs.Sheet.{comparison, toleranceOn, verdictOn}
 use Rattle.sheet.specs.declared.comparison.Comparison.{Comparison}
 use Rattle.sheet.specs.declared.scaled.Scaled.{Scaled}
 use Rattle.sheet.specs.declared.verdict.Verdict.{Verdict}
-use Rattle.names.specs.Names.{lightnessName, chromaName, hueNamed, hueName}
+use Rattle.names.specs.Names.{lightnessName, chromaName, hueNamed, hueName, withheldBy}
 use Rattle.names.specs.Names.Laws.{hue-of-comparison}
 use Rattle.names.specs.declared.Lightness.{Lightness}
 use Rattle.names.specs.declared.Chroma.{Chroma}
 use Rattle.names.specs.declared.Hue.{Hue}
 use Rattle.standard.specs.declared.accept.Standard.{Standard}
 use Rattle.standard.specs.declared.judge.Judgement.{Judgement}
-use Rattle.standard.specs.Judgement.{withheldBy, judgementOf}
+use Rattle.standard.specs.Judgement.{judgementOf}
 use Rattle.standard.proofs.judge.judgement_of.Statement.{statement}
 use Rattle.standard.proofs.judge.judgement_of.Tie as tie
 
