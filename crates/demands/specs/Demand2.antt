@@ -10,6 +10,8 @@
 -- the report is crates/report/specs/Report.antt; which texts are a ticket says `Consists`,
 -- crates/ticket/specs/Ticket/Grammar.antt. Assumes nothing.
 use mathlib.Core.Path.{_≡_, refl, sym, ap, _∙_, subst}
+use mathlib.Core.Bool.{true}
+use mathlib.Core.Logic.{_↔_, _⊎_}
 use mathlib.Core.List.{List}
 use Prim.Native.Nat.{ℕ}
 use Rattle.colour.specs.Conversion.{atPlaces}
@@ -18,8 +20,10 @@ use Rattle.colour.specs.declared.conversion.GridColour.{GridColour}
 use Rattle.colour.specs.declared.placed.Placed.the-variants.{At}
 use Rattle.colour.specs.declared.placed.Reading.{Reading}
 use Rattle.sheet.specs.Sheet.{chromaOf, shift, sheet, comparison, verdict}
+use Rattle.sheet.specs.declared.formula.Formula.the-variants.{CMC}
 use Rattle.sheet.specs.declared.settings.Settings.{Settings}
-use Rattle.names.specs.Names.{lightnessName, chromaName, hueName, withheldBy}
+use Rattle.names.specs.Names.{lightnessName, chromaName, hueName}
+use Rattle.names.specs.Names.Withheld.{Achromatic, withheld-exactly}
 use Rattle.ticket.specs.Ticket.{ticketOf}
 use Rattle.ticket.specs.Ticket.Grammar.{Consists}
 use Rattle.ticket.specs.Ticket.Grammar.Right.{right-exactly}
@@ -56,7 +60,8 @@ pub mod Reports
 
 -- ---- what is judged is the sheet's
 
--- components, names, verdict and what is withheld, each from the settings, the reference and the test specimen alone
+-- components, names, verdict and what is withheld, each from the settings, the reference and the test specimen alone;
+-- `Achromatic` is a² + b² at most 16
 pub record OfTheSheet (by : Settings) (R T : GridColour) (j : Judgement) : Type 0 where
   pub differences : j .comparison .differences ≡ sheet 20 (by .formula) (by .l) (by .c) R T
   pub C : j .comparison .C ≡ chromaOf (atPlaces 20 T)
@@ -64,7 +69,7 @@ pub record OfTheSheet (by : Settings) (R T : GridColour) (j : Judgement) : Type 
   pub chroma : j .chroma ≡ chromaName (shift (atPlaces 20 R) (atPlaces 20 T) .C)
   pub hue : j .hue ≡ hueName R T
   pub verdict : j .verdict ≡ verdict 20 (by .tolerance) (sheet 20 (by .formula) (by .l) (by .c) R T .DE)
-  pub withheld : j .withheld ≡ withheldBy (by .formula) R
+  pub withheld : (j .withheld ≡ true) ↔ ((by .formula ≡ CMC) × (Achromatic R ⊎ Achromatic T))
 
 of-the-sheet : {j : Judgement} → j ≡ judgementOf (j .standard) (j .test) →
     OfTheSheet (j .standard .settings) (j .standard .colour) (j .test) j
@@ -78,7 +83,7 @@ of-the-sheet {j} is =
       chroma = refl;
       hue = refl;
       verdict = verdict-is (j .standard) (j .test);
-      withheld = refl;
+      withheld = withheld-exactly (j .standard .settings .formula) (j .standard .colour) (j .test);
     })
 
 -- what is handed back of o, which came to the judgement j: each figure exactly its units divided by 2 ^ 20, and the

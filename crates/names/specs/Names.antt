@@ -1,7 +1,8 @@
 -- docs/SCOPE.md 7: how the test specimen differs from the reference, in words, and where a report withholds them. The
 -- hue's name is the rule of turning itself; `Names/Laws.antt` shows that the signs of a and b tell which axis is met,
--- and that it is always just one. Assumes nothing.
-use mathlib.Core.Bool.{Bool, true, false, not, cond, _&&_}
+-- and that it is always just one. `Names/Withheld.antt` has what is withheld as an equivalence, `Names/Cases.antt` pairs
+-- at its ends. Assumes nothing.
+use mathlib.Core.Bool.{Bool, true, false, not, cond, _&&_, _||_}
 use Prim.Native.Nat.{_+_, _*_, _^_}
 use lib.Dec.{leb}
 use lib.IntN.{ℤ, pos, negℤ}
@@ -16,7 +17,9 @@ use Rattle.names.specs.declared.Chroma as Chroma
 use Rattle.names.specs.declared.Axis.{Axis}
 use Rattle.names.specs.declared.Axis.the-variants.{Redder, Yellower, Greener, Bluer}
 use Rattle.names.specs.declared.Hue as Hue
+pub mod Cases
 pub mod Laws
+pub mod Withheld
 
 -- ---- lightness and chroma
 
@@ -78,12 +81,12 @@ hueName R T = hueNamed (crossOf R T) (dotOf R T) (R .a .0) (R .b .0)
 
 -- ---- achromatic, and withheld
 
--- the reference has a² + b² at most 16, tested exactly: in grid units, of which one has 2 ^ 20
-unfoldable pub achromatic : (R : GridColour) → Bool
-achromatic R = leb (square (R .a .0) + square (R .b .0)) (16 * (2 ^ 20 * 2 ^ 20))
+-- a specimen has a² + b² at most 16, tested exactly: in grid units, of which one has 2 ^ 20
+unfoldable pub achromatic : GridColour → Bool
+achromatic X = leb (square (X .a .0) + square (X .b .0)) (16 * (2 ^ 20 * 2 ^ 20))
 
--- the reference is achromatic, under CMC: a report then withholds DC, DH and their names
-abbrev pub withheldBy : Formula → (R : GridColour) → Bool
-withheldBy CIELAB R = false
-withheldBy CIE94 R = false
-withheldBy CMC R = achromatic R
+-- under CMC a report withholds DC, DH and their names where the reference or the test specimen is achromatic
+abbrev pub withheldBy : Formula → (R T : GridColour) → Bool
+withheldBy CIELAB R T = false
+withheldBy CIE94 R T = false
+withheldBy CMC R T = achromatic R || achromatic T

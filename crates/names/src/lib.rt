@@ -131,12 +131,12 @@ const FOUR: u64 = 4 * Grid::UNITS_IN_ONE;
 
 const SIXTEEN: u64 = FOUR * FOUR;
 
-// Whether a reference has a² + b² at most 16: neither is then beyond 4.
-fn is_achromatic(r: GridColour) -> bool
-    ensures { λ y. ⌜ y ≡ achromatic r ⌝ }
+// Whether a specimen has a² + b² at most 16: neither is then beyond 4.
+fn is_achromatic(x: GridColour) -> bool
+    ensures { λ y. ⌜ y ≡ achromatic x ⌝ }
 {
-    let a = magnitude(r.a.0);
-    let b = magnitude(r.b.0);
+    let a = magnitude(x.a.0);
+    let b = magnitude(x.b.0);
     if FOUR < a {
         return false;
     }
@@ -146,13 +146,13 @@ fn is_achromatic(r: GridColour) -> bool
     a * a + b * b <= SIXTEEN
 }
 
-// Whether a report leaves out DC, DH and their names: under CMC, where the reference is achromatic.
-pub fn is_withheld(formula: Formula, r: GridColour) -> bool
-    ensures { λ y. ⌜ y ≡ withheldBy formula r ⌝ }
+// Whether a report leaves out DC, DH and their names: under CMC, where either specimen is achromatic.
+pub fn is_withheld(formula: Formula, r: GridColour, t: GridColour) -> bool
+    ensures { λ y. ⌜ y ≡ withheldBy formula r t ⌝ }
 {
     match formula {
         Formula::CIELAB => false,
         Formula::CIE94 => false,
-        Formula::CMC => is_achromatic(r),
+        Formula::CMC => is_achromatic(r) || is_achromatic(t),
     }
 }

@@ -1,6 +1,6 @@
 -- docs/SCOPE.md 10.1: the twelve lines in their order, to be read beside the case of 11.1. What each says is defined in
--- `lines`. `Report/Cases.antt` has that case, `Report/Laws.antt` the lengths, `Report/Longest.antt` the longest report.
--- Assumes nothing.
+-- `lines`. `Report/Cases.antt` has that case, `Report/Laws.antt` the lengths, `Report/Longest.antt` the longest report,
+-- `Report/Withheld.antt` the lines that may be withheld. Assumes nothing.
 use mathlib.Core.Bool.{Bool, false}
 use mathlib.Core.List.{List, [], _∷_}
 use Prim.Native.Nat.{ℕ}
@@ -17,6 +17,7 @@ pub mod Laws
 pub mod Cases
 pub mod Longest
 pub mod Lines
+pub mod Withheld
 
 -- what the difference was worked out by
 unfoldable pub settingLines : Settings → List (List ℕ)

@@ -14,6 +14,7 @@ use Rattle.standard.specs.declared.judge.Outcome.{Outcome}
 use Rattle.standard.specs.declared.judge.Outcome.the-variants.{Refused, Judged}
 use Rattle.standard.specs.Acceptance.{Valid, PlacedOn}
 pub mod Laws
+pub mod Withheld
 
 -- the sheet, the names and the verdict, all from the standard itself
 unfoldable pub judgementOf : Standard → (T : GridColour) → Judgement
@@ -28,7 +29,7 @@ judgementOf s T =
       chroma = chromaName (found .shift .C);
       hue = hueName (s .colour) T;
       verdict = verdictOn 20 (toleranceOn 20 (by .formula) (by .tolerance)) (found .scaled);
-      withheld = withheldBy (by .formula) (s .colour);
+      withheld = withheldBy (by .formula) (s .colour) T;
     }
 
 -- by the test specimen's place, or its refusal

@@ -50,7 +50,7 @@ fn judgement_of(s: Standard, t: GridColour) -> Judgement
     let tolerance = Scaled::tolerance(formula, settings.tolerance);
     let scaled = found.scaled;
     let verdict = scaled.verdict(tolerance);
-    let withheld = is_withheld(formula, colour);
+    let withheld = is_withheld(formula, colour, t);
     Judgement {
         standard: s,
         test: t,

@@ -34,14 +34,14 @@ module _ (c : tie.After-magnitude2) where
   abbrev start : tie.Start
   start = at-a .before .before
 
-  a-is : at-a .magnitude .result ≡ ∣ start .args .r .a .0 ∣
+  a-is : at-a .magnitude .result ≡ ∣ start .args .x .a .0 ∣
   a-is =
-      let back : toZ w64 (ofZ w64 (start .args .r .a .0)) ≡ start .args .r .a .0 = search needs in
+      let back : toZ w64 (ofZ w64 (start .args .x .a .0)) ≡ start .args .x .a .0 = search needs in
       at-a .magnitude .ensures ∙ ap (λ (z : ℤ). ∣ z ∣) back
 
-  b-is : c .magnitude2 .result ≡ ∣ start .args .r .b .0 ∣
+  b-is : c .magnitude2 .result ≡ ∣ start .args .x .b .0 ∣
   b-is =
-      let back : toZ w64 (ofZ w64 (start .args .r .b .0)) ≡ start .args .r .b .0 = search needs in
+      let back : toZ w64 (ofZ w64 (start .args .x .b .0)) ≡ start .args .x .b .0 = search needs in
       c .magnitude2 .ensures ∙ ap (λ (z : ℤ). ∣ z ∣) back
 
 a-past-4 : tie.Need-returns

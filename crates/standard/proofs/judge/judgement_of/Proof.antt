@@ -37,7 +37,7 @@ module _ (s : Standard) (T : GridColour) {k : Comparison}
       c ≡ k .shift .C → chroma ≡ chromaName c →
       hue ≡ hueName (s .colour) T →
       t ≡ toleranceOn 20 (s .settings .formula) (s .settings .tolerance) → v ≡ verdictOn 20 t (k .scaled) →
-      w ≡ withheldBy (s .settings .formula) (s .colour) →
+      w ≡ withheldBy (s .settings .formula) (s .colour) T →
       _≡_ {A = Judgement}
       (record {
         standard = s;
