@@ -87,10 +87,10 @@ pub fn hue_name(reference: Colour, test: Colour) -> Option<[HueName; 2]> {
     Some([next()?, next()?])
 }
 
-/// SCOPE 7.3: the reference has a² + b² at most 16, tested exactly.
-pub fn achromatic(reference: Colour) -> bool {
-    let reference = plane(reference);
-    dot(reference, reference) <= 16 << 40
+/// SCOPE 7.3: the specimen has a² + b² at most 16, tested exactly.
+pub fn achromatic(specimen: Colour) -> bool {
+    let specimen = plane(specimen);
+    dot(specimen, specimen) <= 16 << 40
 }
 
 /// Lightness, chroma, hue, its bracket and the verdict as numbers: each counted from 1 in the order

@@ -70,7 +70,7 @@ pub fn report(standard: &Standard, test: Colour) -> Vec<u8> {
     let sheet = standard.sheet(test);
     let verdict = sheet::verdict(PLACES, sheet.de, standard.tolerance.into());
     let unless_withheld = |text: String| {
-        if standard.withholds() {
+        if standard.withholds(test) {
             "withheld".to_string()
         } else {
             text

@@ -26,9 +26,9 @@ impl Standard {
         sheet::sheet(PLACES, self.formula, factors, self.colour, test)
     }
 
-    /// SCOPE 10.4: under CMC, where the reference is achromatic.
-    pub fn withholds(&self) -> bool {
-        self.formula == Formula::Cmc && achromatic(self.colour)
+    /// SCOPE 10.4: under CMC, where the reference or the test specimen is achromatic.
+    pub fn withholds(&self, test: Colour) -> bool {
+        self.formula == Formula::Cmc && [self.colour, test].into_iter().any(achromatic)
     }
 }
 

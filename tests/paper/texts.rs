@@ -108,11 +108,28 @@ fn verdicts_and_withheld() {
         let edits = format!("formula=CIELAB|tol={tolerance}|test=51.125 0 0");
         assert!(ends_with(&with(&edits), &format!("verdict={verdict}\n")));
     }
-    // SCOPE 7.3: a² + b² is 16, and hardly more
-    for (reference, hue) in [("0 -4", "withheld"), ("4 0.001", "equal")] {
-        let edits = format!("ref=50 {reference}|test=50 {reference}");
-        let end = format!("hue={hue}\nverdict=pass\n");
-        assert!(ends_with(&with(&edits), &end));
+    withheld_of_either();
+}
+
+/// SCOPE 7.3 and 10.4: a² + b² of one, of the other or of both is 16, or hardly more.
+fn withheld_of_either() {
+    for (reference, test, hue, withheld) in [
+        ("0 -4", "0 -4", "equal", 4),
+        ("0 -4", "0 -9", "equal", 4),
+        ("0 -9", "0 -4", "equal", 4),
+        ("9 0", "0 0", "equal", 4),
+        ("0 -9", "0 -4.000001", "equal", 0),
+        ("0 -4.000001", "0 -9", "equal", 0),
+        ("4 0.001", "4 0.001", "equal", 0),
+        ("9 0", "4 0.001", "yellower(greener)", 0),
+    ] {
+        for (formula, withheld) in [("CMC", withheld), ("CIE94", 0), ("CIELAB", 0)] {
+            let edits = format!("formula={formula}|ref=50 {reference}|test=50 {test}");
+            let report = String::from_utf8(printed(&with(&edits))).expect("a text");
+            let hue = if withheld > 0 { "withheld" } else { hue };
+            assert!(report.contains(&format!("\nhue={hue}\n")), "{edits}");
+            assert_eq!(report.matches("=withheld\n").count(), withheld, "{edits}");
+        }
     }
 }
 

@@ -9,7 +9,7 @@
 //!     of the reference: L, a, b, C, SL, SC, SH,
 //!     of the test specimen: L, a, b, C, DL, DC, DH, DE,
 //!     lightness, chroma, hue, its bracket, verdict (`names::words` has their numbers),
-//!     ΔL, ΔC, ΔH, achromatic reference (0 no, 1 yes)
+//!     ΔL, ΔC, ΔH, how many lines of a report are withheld under CMC
 //!
 //! What is worked out is 0 where the call is refused that would tell it. The last record has -1 for
 //! its formula and the number of the records before it for its l, so a list that was cut short is
@@ -25,7 +25,7 @@ mod seen;
 mod shared;
 
 use records::Pairs;
-use shared::{aimed, list, paper, random};
+use shared::{aimed, grey, list, paper, random};
 
 fn main() {
     paper::check();

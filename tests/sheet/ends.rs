@@ -92,11 +92,11 @@ pub fn achromatic_end(pairs: &mut Pairs) {
     }
 }
 
-/// A reference in all four places that quarter turns give it.
+/// A specimen in all four places that quarter turns give it.
 fn around_axes(pairs: &mut Pairs, a: i64, b: i64, times: u32) {
     for [a, b] in [[a, b], [-b, a], [-a, -b], [b, -a]] {
         let l = pairs.random.lightness();
-        pairs.try_reference([l, a, b], times);
+        pairs.try_either([l, a, b], times);
     }
 }
 

@@ -61,9 +61,16 @@ fn reference_figures(standard: &Standard) -> [i128; 4] {
     [c, semi_axes.sl, semi_axes.sc, semi_axes.sh]
 }
 
-/// C, DL, DC, DH, DE, the words, ΔL, ΔC, ΔH, achromatic.
-fn test_figures(sheet: &Sheet, tolerance: u32, reference: Colour, test: Colour) -> [i128; 14] {
-    let words = names::words(sheet, tolerance.into(), reference, test).map(i128::from);
+/// SCOPE 10.4: how many lines of a report are withheld under CMC.
+fn withheld_lines(terms: Terms, reference: Colour, test: Colour) -> i128 {
+    let mut standard = terms.standard(reference);
+    standard.formula = settings::Formula::Cmc;
+    4 * i128::from(standard.withholds(test))
+}
+
+/// C, DL, DC, DH, DE, the words, ΔL, ΔC, ΔH, the lines withheld.
+fn test_figures(sheet: &Sheet, terms: Terms, reference: Colour, test: Colour) -> [i128; 14] {
+    let words = names::words(sheet, terms.tolerance.into(), reference, test).map(i128::from);
     let [lightness, chroma, hue, bracket, verdict] = words;
     [
         sheet.test_chroma,
@@ -79,7 +86,7 @@ fn test_figures(sheet: &Sheet, tolerance: u32, reference: Colour, test: Colour) 
         sheet.delta_l,
         sheet.delta_c,
         sheet.delta_h,
-        names::achromatic(reference).into(),
+        withheld_lines(terms, reference, test),
     ]
 }
 
@@ -129,7 +136,7 @@ impl Pairs {
         self.write_figures(&loaded.map_or([0; 4], |standard| reference_figures(&standard)));
         self.write(&test);
         self.write_figures(&judged.map_or([0; 14], |sheet| {
-            test_figures(&sheet, tolerance, reference, test)
+            test_figures(&sheet, terms, reference, test)
         }));
         self.records += 1;
         if let Ok(sheet) = &judged {
@@ -157,6 +164,15 @@ impl Pairs {
         let formula = self.random.pick(&[CIELAB, CIE94, CMC, CMC, CMC]);
         let factors = [self.random.factor(), self.random.factor()];
         self.put(formula, factors, reference, test);
+    }
+
+    /// Pairs of this colour with others of every kind, as the reference and as the test specimen.
+    pub fn try_either(&mut self, colour: Colour, times: u32) {
+        for _ in 0..times {
+            let other = self.random.test_for(colour);
+            self.add(colour, other);
+            self.add(other, colour);
+        }
     }
 
     /// Pairs of this reference with test specimens of every kind.

@@ -15,7 +15,7 @@ struct record {
     int64_t formula, l, c, tolerance;
     int64_t load, judgement;
     int64_t reference[REFERENCE_FIGURES], test[FIGURES], words[WORDS];
-    int64_t shift[DELTAS], achromatic;
+    int64_t shift[DELTAS], withheld;
 };
 
 static uint64_t records, pairs, differences;
@@ -95,16 +95,18 @@ static int shift_agrees(const struct record *r)
     return agrees(r, "shift", &got, &wanted);
 }
 
-/* Under CMC a report withholds DC of an achromatic reference, and of no other. */
-static int achromatic_agrees(const struct record *r)
+/* How many lines of the report under a formula are withheld: under CMC as many as the paper has, under the others none. */
+static int withheld_agrees(uint32_t formula, const struct record *r)
 {
     const int64_t *q = r->test;
     uint8_t station[SHADE_STATION_BYTES] = {0}, room[SHADE_REPORT_BYTES + 1] = {0};
-    load(station, SHADE_CMC, r);
-    uint32_t number = shade_judge_lab(station, SHADE_STATION_BYTES, value(q[0]), value(q[1]), value(q[2]), room,
-                                      SHADE_REPORT_BYTES, 0);
-    int withheld = strstr((const char *)room, "\nDC=withheld\n") != 0;
-    return number_agrees(r, "report", number, 0) && number_agrees(r, "achromatic", (uint32_t)withheld, r->achromatic);
+    load(station, formula, r);
+    uint32_t lines = 0, number = shade_judge_lab(station, SHADE_STATION_BYTES, value(q[0]), value(q[1]), value(q[2]),
+                                                 room, SHADE_REPORT_BYTES, 0);
+    for (const char *at = (const char *)room; (at = strstr(at, "=withheld\n")) != 0; at++)
+        lines++;
+    return number_agrees(r, "report", number, 0) &&
+           number_agrees(r, "lines withheld", lines, formula == SHADE_CMC ? r->withheld : 0);
 }
 
 static void compare(const struct record *r)
@@ -112,7 +114,8 @@ static void compare(const struct record *r)
     int good = load_agrees(r) && judgement_agrees(r);
     /* the other formulas are asked only of a pair that is accepted */
     if (r->judgement == 0)
-        good = good && shift_agrees(r) && achromatic_agrees(r);
+        good = good && shift_agrees(r) && withheld_agrees(SHADE_CIELAB, r) && withheld_agrees(SHADE_CIE94, r) &&
+               withheld_agrees(SHADE_CMC, r);
     differences += !good;
     records++;
     pairs += r->judgement == 0;

@@ -2,41 +2,50 @@
 
 use crate::aimed::beyond_near;
 use crate::ends::LINES;
+use crate::grey::Greys;
 use crate::paper::conversion::Colour;
 use crate::paper::readings::GRID_ONE as ONE;
+use crate::paper::settings::Formula;
 use crate::paper::sheet::{self, Sheet, PLACES};
 use crate::paper::turn::turn;
 
 /// How many pairs have been of a kind that a wrong sheet could get wrong and that chance alone
 /// seldom gives.
 #[derive(Default)]
-pub struct Seen(Vec<(&'static str, u64)>);
+pub struct Seen {
+    kinds: Vec<(&'static str, u64)>,
+    greys: Greys,
+}
 
 impl Seen {
     pub fn pair(&mut self, sheet: &Sheet, tolerance: u32, reference: Colour, test: Colour) {
         let kinds = kinds(sheet, tolerance, reference, test);
-        if self.0.is_empty() {
-            self.0 = kinds.map(|(kind, _)| (kind, 0)).to_vec();
+        if self.kinds.is_empty() {
+            self.kinds = kinds.map(|(kind, _)| (kind, 0)).to_vec();
         }
-        for (seen, (_, is_one)) in self.0.iter_mut().zip(kinds) {
+        for (seen, (_, is_one)) in self.kinds.iter_mut().zip(kinds) {
             seen.1 += u64::from(is_one);
+        }
+        // replay.c asks for a report under each formula
+        for formula in [Formula::Cielab, Formula::Cie94, Formula::Cmc] {
+            self.greys.report(formula, reference, test);
         }
     }
 
     pub fn check(&self) {
-        for (kind, count) in &self.0 {
+        for (kind, count) in &self.kinds {
             assert!(*count >= 200, "only {count} pairs: {kind}");
         }
+        self.greys.check();
     }
 }
 
-type Kinds = [(&'static str, bool); 24];
+type Kinds = [(&'static str, bool); 21];
 
 fn kinds(sheet: &Sheet, tolerance: u32, reference: Colour, test: Colour) -> Kinds {
     let [l, a, b] = reference;
     let square = |[_, a, b]: Colour| a * a + b * b;
-    let (squares, c) = ([reference, test].map(square), sheet.reference_chroma);
-    let (four, sixteen) = (4 << 20, 16 << 40);
+    let squares = [reference, test].map(square);
     // line 6's sums, with their signs turned
     let [at_164, at_345] = [LINES[0], LINES[1]].map(|[p, q]| p * a as i128 + q * b as i128);
     let turn = turn(reference, test);
@@ -49,9 +58,6 @@ fn kinds(sheet: &Sheet, tolerance: u32, reference: Colour, test: Colour) -> Kind
         ("reference just off an axis", a.abs().min(b.abs()) == 1),
         ("L of the reference is 16", l == 16 * ONE),
         ("L just below 16", l == 16 * ONE - 1),
-        ("a² + b² is 16", squares[0] == sixteen),
-        ("just below 16", squares[0] < sixteen && c == four - 1),
-        ("just above 16", squares[0] > sixteen && c == four),
         ("on the end at 164", at_164 == 0 && a < 0),
         ("inside it", (-20..0).contains(&at_164) && a < 0),
         ("outside it", (1..20).contains(&at_164) && a < 0),

@@ -27,7 +27,7 @@ mod seen;
 mod shared;
 mod tickets;
 
-use shared::{aimed, list, paper, random};
+use shared::{aimed, grey, list, paper, random};
 
 fn main() {
     paper::check();

@@ -84,6 +84,7 @@ impl Host {
             (3..=4, _, Some(standard)) => random.specimen(&standard),
             (5, _, _) => random.odd_reading(any),
             (6, _, _) if random.one_in(2) => random.far_from_grey(),
+            (7, _, _) => random.nearly_grey(),
             _ => any,
         };
         let length = random.length(16);

@@ -161,6 +161,13 @@ impl Host {
             LastLoad::Accepted(load) => judged(Some(load.standard()), &reading),
         };
         assert_eq!(answer, fresh, "the bytes tell another standard");
+        if let Some(standard) = standard {
+            if let Ok(test) = reading.place(standard.white) {
+                self.seen
+                    .greys
+                    .report(standard.formula, standard.colour, test);
+            }
+        }
         let faults = judge_faults(standard, &reading);
         let kind = 2 + reading.space as usize;
         let record = Record {

@@ -2,6 +2,7 @@
 
 use std::collections::BTreeMap;
 
+use crate::grey::Greys;
 use crate::paper::{report, ticket};
 
 /// Names of the kinds of call, with the refusals that each can give (SCOPE 8.3). The second and the
@@ -23,6 +24,8 @@ pub struct Seen {
     pairs: BTreeMap<(usize, u32, u32), u64>,
     words: BTreeMap<(usize, Vec<u8>), u64>,
     longest: usize,
+    /// of the judgements that come to a report, whether there is room for it or not
+    pub greys: Greys,
 }
 
 impl Seen {
@@ -49,6 +52,7 @@ impl Seen {
         self.check_numbers();
         self.check_pairs();
         self.check_words();
+        self.greys.check();
         // SHADE_REPORT_BYTES
         assert_eq!(self.longest, 161);
     }

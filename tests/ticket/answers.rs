@@ -25,7 +25,7 @@ mod seen;
 #[path = "../shared/mod.rs"]
 mod shared;
 
-use shared::{aimed, list, paper, random};
+use shared::{aimed, grey, list, paper, random};
 
 fn main() {
     paper::check();
@@ -37,6 +37,7 @@ fn main() {
     right::refusals(&mut tickets);
     right::tolerance_ends(&mut tickets);
     right::printed_ends(&mut tickets);
+    right::achromatic_ends(&mut tickets);
     damage::others(&mut tickets);
     tickets.end();
 }

@@ -68,7 +68,7 @@ impl Random {
     }
 
     /// a² + b² close to 16: on an axis, or as near as six decimals allow.
-    fn beside_four(&mut self, l: i64) -> Reading {
+    pub fn beside_four(&mut self, l: i64) -> Reading {
         let along = if self.one_in(2) {
             4 * ONE
         } else {

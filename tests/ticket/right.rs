@@ -67,3 +67,24 @@ pub fn printed_ends(tickets: &mut Tickets) {
         tickets.draft(&draft);
     }
 }
+
+/// A specimen of a pair at the end of what is achromatic, or both of them, under any formula. The other
+/// one is mostly not achromatic: it has the same hue, or any.
+pub fn achromatic_ends(tickets: &mut Tickets) {
+    for _ in 0..8_000 {
+        let random = &mut tickets.random;
+        let l = random.below(100) as i64 * ONE;
+        let [_, a, b] = random.beside_four(l);
+        let end = [l, a, b];
+        let others = [[l, 2 * a, 2 * b], random.lab(), random.beside_four(l)];
+        let mut pair = [end, random.pick(&others)];
+        if random.one_in(2) {
+            pair.reverse();
+        }
+        let mut draft = random.ticket();
+        draft.formula = random.pick(&[0, 1, 2, 2]);
+        draft.space = 1;
+        [draft.reference, draft.test] = pair;
+        tickets.draft(&draft);
+    }
+}

@@ -3,10 +3,11 @@
 use std::collections::BTreeMap;
 
 use crate::aimed::beyond_near;
+use crate::grey::Greys;
 use crate::paper::conversion::Colour;
 use crate::paper::refusals::Answer;
 use crate::paper::report;
-use crate::paper::settings::{self, Formula};
+use crate::paper::settings;
 use crate::paper::sheet::Sheet;
 use crate::paper::standard::{accepted, place, Standard};
 use crate::paper::ticket::{self, Ticket};
@@ -17,6 +18,7 @@ pub struct Seen {
     /// Lines of what is printed, all figures of one sign alike.
     lines: BTreeMap<String, u64>,
     kinds: BTreeMap<&'static str, u64>,
+    greys: Greys,
 }
 
 /// Every line that can be printed, but for l and c.
@@ -125,27 +127,20 @@ impl Seen {
 
     fn judgement(&mut self, standard: &Standard, test: Colour) {
         let sheet = standard.sheet(test);
-        let vanishes = |figure| (-52..0).contains(&figure) && !standard.withholds();
-        let [_, a, b] = standard.colour;
-        let (square, sixteen) = (a * a + b * b, 16 << 40);
-        let (four, cmc) = (
-            sheet.reference_chroma == 4 << 20,
-            standard.formula == Formula::Cmc,
-        );
+        let withheld = standard.withholds(test);
+        let vanishes = |figure| (-52..0).contains(&figure) && !withheld;
         let beyond = beyond_near(sheet.de, standard.tolerance.into());
         self.notes([
             ("minus of DL not shown", vanishes(sheet.dl)),
             ("minus of DC not shown", vanishes(sheet.dc)),
             ("minus of DH not shown", vanishes(sheet.dh)),
-            ("a² + b² is 16", cmc && square == sixteen),
-            ("a² + b² just above 16", cmc && square > sixteen && four),
-            ("achromatic, but not CMC", !cmc && square < sixteen),
             ("DE on an end of near", beyond == 0),
             ("DE from 100 on", sheet.de >= 100 << 20),
         ]);
-        if !standard.withholds() {
+        if !withheld {
             self.printing(&sheet);
         }
+        self.greys.report(standard.formula, standard.colour, test);
     }
 
     /// Figures that are printed, and at which the printing could go wrong.
@@ -204,6 +199,7 @@ impl Seen {
         for (kind, count) in lines().chain(self.kinds.iter().map(|(kind, count)| (*kind, count))) {
             assert!(*count >= 100, "only {count}: {kind}");
         }
+        self.greys.check();
     }
 
     /// Verdicts and refusals, for who reads the run.
