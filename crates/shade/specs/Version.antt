@@ -6,12 +6,12 @@ pub major : ℕ
 major = 1
 
 pub minor : ℕ
-minor = 2
+minor = 3
 
 pub version : ℕ
 version = 100 * major + minor
 
--- of 1.2 it is 102
-pub in-figures : 102 ≡ version
+-- of 1.3 it is 103
+pub in-figures : 103 ≡ version
 unfolding version major minor
 in-figures = refl

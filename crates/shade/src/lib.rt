@@ -106,7 +106,7 @@ pub extern "C" fn shade_ticket(text: &[u8], room: &mut [u8], column: usize) -> u
 
 const MAJOR: u32 = 1;
 
-const MINOR: u32 = 2;
+const MINOR: u32 = 3;
 
 // SHADE_VERSION of the header that this library was made with.
 #[no_mangle]
