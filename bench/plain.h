@@ -126,6 +126,9 @@ static void hue_names(struct colour r, int clockwise, const char **name, const c
     *bracket = axes[(clockwise ? met + 3 : met + 1) % 4];
 }
 
+/* 4.5 and 5. */
+static int achromatic(struct colour x) { return x.a * x.a + x.b * x.b <= 16; }
+
 /* 4 and 5, in the twelve lines of libshade's report. */
 CALL int report(const struct standard *s, struct colour t, struct differences d, char *into, size_t most)
 {
@@ -134,7 +137,7 @@ CALL int report(const struct standard *s, struct colour t, struct differences d,
     double apart = fabs(d.DE - s->tolerance);
     const char *verdict = apart <= 0.002 ? "near" : d.DE < s->tolerance ? "pass" : "fail";
     int n;
-    if (r.a * r.a + r.b * r.b <= 16) {
+    if (achromatic(r) || achromatic(t)) {
         n = snprintf(into, most,
             "formula=CMC\nwhite=%s\nl=%.3f\nc=%.3f\nDE=%.4f\nDL=%.4f\nDC=withheld\nDH=withheld\n"
             "lightness=%s\nchroma=withheld\nhue=withheld\nverdict=%s\n",
