@@ -44,8 +44,8 @@ extern "C" {
  *     SHADE_VERSION is 100 * MAJOR + MINOR, a number for #if: 1.3 is 103, and SHADE_VERSION >= 104 asks for 1.4 or
  *     later. It is this header's; shade_version() answers that of the library that the host was linked with. Where the
  *     two differ in the major number, the host was compiled for other calls, and should not go on. A higher minor
- *     number: calls were added, or a report can be another one for the same pair. Since 1.2 its figures are the nearest;
- *     since 1.3 an achromatic test specimen withholds as an achromatic reference does. */
+ *     number: calls were added, or a report can be another one for the same pair. Since 1.2 its figures are the
+ *     nearest; since 1.3 an achromatic test specimen withholds as an achromatic reference does. */
 #define SHADE_VERSION_MAJOR 1
 #define SHADE_VERSION_MINOR 3
 #define SHADE_VERSION (100 * SHADE_VERSION_MAJOR + SHADE_VERSION_MINOR)
@@ -159,7 +159,7 @@ static inline const char *shade_refusal_text(uint32_t number)
  *         verdict=near                         pass, fail, or near: DE is within 0.002 of the tolerance
  *
  *     The four are withheld under CMC, all or none of them, where the reference or the test specimen is achromatic, or
- *     both are: a* and b*, squared, sum up to 16 at most. Before version 1.3 the reference alone decided.
+ *     both are: its own a* and b*, squared, sum up to 16 at most. Before version 1.3 the reference alone decided.
  *
  *     A number has a minus only if a digit is shown that is not 0. The verdict and the names never go by the printed
  *     number: DE=1.0020 can be near or fail at a tolerance of 1000. Before version 1.2 DE, DL, DC and DH were cut after

@@ -111,7 +111,7 @@ fn verdicts_and_withheld() {
     withheld_of_either();
 }
 
-/// SCOPE 7.3 and 10.4: a² + b² of one, of the other or of both is 16, or hardly more.
+/// SCOPE 7.3 and 10.4: a² + b² of one, of the other or of both is at most 16, or hardly more.
 fn withheld_of_either() {
     for (reference, test, hue, withheld) in [
         ("0 -4", "0 -4", "equal", 4),

@@ -31,7 +31,7 @@ impl Greys {
 /// An end shows in a report only where the other specimen is not achromatic.
 fn kinds(reference: Colour, test: Colour) -> [(&'static str, bool); 9] {
     let [r, t] = [reference, test].map(|[_, a, b]| a * a + b * b);
-    // C, rounded down, is 4 up to here
+    // C, rounded down, is 4 in the first of these, and a unit less in the second
     let just_above = SIXTEEN + 1..(FOUR + 1) * (FOUR + 1);
     let just_below = (FOUR - 1) * (FOUR - 1)..SIXTEEN;
     [

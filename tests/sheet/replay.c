@@ -95,7 +95,7 @@ static int shift_agrees(const struct record *r)
     return agrees(r, "shift", &got, &wanted);
 }
 
-/* How many lines of the report under a formula are withheld: under CMC as many as the paper has, under the others none. */
+/* How many lines of the report by a formula are withheld: by CMC as many as the paper says, by the others none. */
 static int withheld_agrees(uint32_t formula, const struct record *r)
 {
     const int64_t *q = r->test;

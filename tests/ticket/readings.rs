@@ -41,7 +41,7 @@ impl Random {
         self.pick(&[0, 1, 99, 10_001, 99_999, less, more])
     }
 
-    /// L*, a*, b* for a reference.
+    /// L*, a*, b*, mostly for a reference.
     pub fn lab(&mut self) -> Reading {
         let l = self.up_to(LIGHTEST);
         let most = self.pick(&[32, 64, 128, 256]) * ONE;

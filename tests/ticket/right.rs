@@ -74,8 +74,8 @@ pub fn achromatic_ends(tickets: &mut Tickets) {
     for _ in 0..8_000 {
         let random = &mut tickets.random;
         let l = random.below(100) as i64 * ONE;
-        let [_, a, b] = random.beside_four(l);
-        let end = [l, a, b];
+        let end = random.beside_four(l);
+        let [_, a, b] = end;
         let others = [[l, 2 * a, 2 * b], random.lab(), random.beside_four(l)];
         let mut pair = [end, random.pick(&others)];
         if random.one_in(2) {

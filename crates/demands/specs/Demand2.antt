@@ -23,7 +23,7 @@ use Rattle.sheet.specs.Sheet.{chromaOf, shift, sheet, comparison, verdict}
 use Rattle.sheet.specs.declared.formula.Formula.the-variants.{CMC}
 use Rattle.sheet.specs.declared.settings.Settings.{Settings}
 use Rattle.names.specs.Names.{lightnessName, chromaName, hueName}
-use Rattle.names.specs.Names.Withheld.{Achromatic, withheld-exactly}
+use Rattle.names.specs.Names.Withheld.{Achromatic}
 use Rattle.ticket.specs.Ticket.{ticketOf}
 use Rattle.ticket.specs.Ticket.Grammar.{Consists}
 use Rattle.ticket.specs.Ticket.Grammar.Right.{right-exactly}
@@ -33,6 +33,7 @@ use Rattle.standard.specs.Acceptance.{settingsOf}
 use Rattle.standard.specs.Acceptance.Laws.{accepted-made}
 use Rattle.standard.specs.Judgement.{judgementOf}
 use Rattle.standard.specs.Judgement.Laws.{verdict-is}
+use Rattle.standard.specs.Judgement.Withheld.{judgement-withheld}
 use Rattle.standard.specs.Figures.{referenceAnswer, specimenAnswer}
 use Rattle.standard.specs.Figures.Exact.{ReferenceExact, SpecimenExact}
 use Rattle.standard.specs.declared.accept.Standard.{Standard}
@@ -83,7 +84,7 @@ of-the-sheet {j} is =
       chroma = refl;
       hue = refl;
       verdict = verdict-is (j .standard) (j .test);
-      withheld = withheld-exactly (j .standard .settings .formula) (j .standard .colour) (j .test);
+      withheld = judgement-withheld (j .standard) (j .test);
     })
 
 -- what is handed back of o, which came to the judgement j: each figure exactly its units divided by 2 ^ 20, and the

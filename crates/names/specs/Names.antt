@@ -1,7 +1,7 @@
 -- docs/SCOPE.md 7: how the test specimen differs from the reference, in words, and where a report withholds them. The
 -- hue's name is the rule of turning itself; `Names/Laws.antt` shows that the signs of a and b tell which axis is met,
--- and that it is always just one. `Names/Withheld.antt` has what is withheld as an equivalence, `Names/Cases.antt` pairs
--- at its ends. Assumes nothing.
+-- and that it is always just one. `Names/Withheld.antt` has what is withheld as an equivalence, `Names/Cases.antt` has
+-- pairs at its ends. Assumes nothing.
 use mathlib.Core.Bool.{Bool, true, false, not, cond, _&&_, _||_}
 use Prim.Native.Nat.{_+_, _*_, _^_}
 use lib.Dec.{leb}

@@ -25,7 +25,7 @@ pub struct Judgement {
     pub chroma: Chroma,
     pub hue: Hue,
     pub verdict: Verdict,
-    // Whether a report leaves out DC, DH and their names.
+    // Whether a report withholds DC, DH and their names.
     pub withheld: bool,
 }
 

@@ -1,5 +1,5 @@
--- `names::is_withheld` meets its contract: nothing under CIELAB and CIE94; under CMC the reference's test, and where that
--- fails the test specimen's. Assumes nothing.
+-- `names::is_withheld` meets its contract: nothing under CIELAB and CIE94; under CMC by the reference, or else by the
+-- test specimen. Assumes nothing.
 use mathlib.Core.Path.{_≡_, sym, _∙_}
 use mathlib.Core.Bool.{true, false}
 use borrow.Author.Needs.{needs}
@@ -10,6 +10,7 @@ use Rattle.names.specs.Names.{achromatic, withheldBy}
 use Rattle.names.proofs.is_withheld.Statement.{statement}
 use Rattle.names.proofs.is_withheld.Tie as tie
 
+-- an arm each, so that an error names the formula
 module _ {f : Formula} (R T : GridColour) where
   under-cielab : f ≡ CIELAB → false ≡ withheldBy f R T
   under-cielab e = rw e
@@ -21,6 +22,7 @@ module _ {f : Formula} (R T : GridColour) where
   by-reference e h = rw (e, h)
 
   by-test : f ≡ CMC → achromatic R ≡ false → achromatic T ≡ withheldBy f R T
+  unfolding achromatic
   by-test e h = rw (e, h)
 
 cielab : tie.Need-returns

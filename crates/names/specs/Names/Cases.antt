@@ -1,37 +1,39 @@
--- What is withheld of some pairs, by computing: a tape mill's, and those at the ends of docs/SCOPE.md 7.3. No proof cites
--- this. Assumes nothing.
+-- What is withheld of some pairs, by computing: a tape mill's, and those at the ends of docs/SCOPE.md 7.3. No proof
+-- cites this. Assumes nothing.
 use mathlib.Core.Path.{_≡_, refl}
-use mathlib.Core.Bool.{Bool, true, false}
-use Prim.Native.Nat.{ℕ}
+use mathlib.Core.Bool.{true, false}
 use lib.IntN.{ℤ, pos, negsuc}
 use Rattle.rounding.specs.Root.{rootOf}
+use Rattle.reading.specs.Grid.{gridOf}
 use Rattle.colour.specs.Conversion.{atPlaces}
 use Rattle.colour.specs.declared.conversion.GridColour.{GridColour}
 use Rattle.sheet.specs.Sheet.{chroma, chromaOf}
-use Rattle.sheet.specs.declared.formula.Formula.{Formula}
 use Rattle.sheet.specs.declared.formula.Formula.the-variants.{CIELAB, CIE94, CMC}
 use Rattle.names.specs.Names.{achromatic, withheldBy}
 
 -- L* plays no part
-abbrev at : (a b : ℤ) → GridColour
-at a b = record { L = record { 0 = pos 0 }; a = record { 0 = a }; b = record { 0 = b } }
+abbrev lab : (a b : ℤ) → GridColour
+lab a b = record { L = gridOf (pos 0); a = gridOf a; b = gridOf b }
 
--- a* = 0.35 and b* = 4.29, so that C is 4.3; a* = -0.1 and b* = 2.8
+-- a* = 0.35 and b* = 4.29: C is 4.3
 abbrev cream : GridColour
-cream = at (pos 367002) (pos 4498391)
+cream = lab (pos 367002) (pos 4498391)
 
+-- a* = -0.1 and b* = 2.8
 abbrev nearlyWhite : GridColour
-nearlyWhite = at (negsuc 104857) (pos 2936013)
+nearlyWhite = lab (negsuc 104857) (pos 2936013)
 
--- a* = 4; a unit more; and with b* = 0.001, of which C, rounded down, is 4 too
+-- a* = 4
 abbrev four : GridColour
-four = at (pos 4194304) (pos 0)
+four = lab (pos 4194304) (pos 0)
 
+-- a unit more
 abbrev overFour : GridColour
-overFour = at (pos 4194305) (pos 0)
+overFour = lab (pos 4194305) (pos 0)
 
+-- a* = 4 and b* = 0.001: C, rounded down, is still 4
 abbrev hardlyOverFour : GridColour
-hardlyOverFour = at (pos 4194304) (pos 1049)
+hardlyOverFour = lab (pos 4194304) (pos 1049)
 
 pub record WithheldCases : Type 0 where
   pub test-alone : withheldBy CMC cream nearlyWhite ≡ true

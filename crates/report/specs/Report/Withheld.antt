@@ -1,14 +1,15 @@
--- docs/SCOPE.md 10.4: a report that withholds four lines, and one that withholds none; and the report of before, when
--- the reference alone decided. Assumes nothing.
+-- docs/SCOPE.md 10.4: the report with four lines withheld and with none, and exactly when it is which; and that it is
+-- the report of the rule before version 1.3, byte for byte, but where under CMC the test specimen alone is achromatic.
+-- Assumes nothing.
 use mathlib.Core.Path.{_≡_, ap}
-use mathlib.Core.Bool.{true, false}
+use mathlib.Core.Bool.{true, false, not-eq-not}
 use mathlib.Core.List.{List, [], _∷_}
 use Prim.Native.Nat.{ℕ}
 use Rattle.colour.specs.declared.conversion.GridColour.{GridColour}
 use Rattle.sheet.specs.declared.differences.Differences.{Differences}
-use Rattle.names.specs.Names.Withheld.{Achromatic}
+use Rattle.names.specs.Names.Withheld.{Achromatic, Withholds, TestAlone}
 use Rattle.standard.specs.Judgement.{judgementOf}
-use Rattle.standard.specs.Judgement.Withheld.{judgementBefore, judgement-as-before}
+use Rattle.standard.specs.Judgement.Withheld.{judgement-withheld, judgementByReference, judgement-as-before}
 use Rattle.standard.specs.declared.accept.Standard.{Standard}
 use Rattle.standard.specs.declared.judge.Judgement.{Judgement}
 use Rattle.text.specs.Ascii.{ascii}
@@ -17,9 +18,10 @@ use Rattle.text.specs.Put.{joined, line}
 use Rattle.lines.specs.Lines.{lightnessWord, chromaWord, hueWord, verdictWord, figure, signedFigure}
 use Rattle.report.specs.Report.{settingLines, figureLines, wordLines, reportText}
 
--- the twelve lines of a judgement, of which DC=, DH=, chroma= and hue= say this
-abbrev saying : Judgement → (DC DH chroma hue : List ℕ) → List ℕ
-saying j DC DH chroma hue =
+-- the lines of a judgement, of which DC=, DH=, chroma= and hue= say this: written out once more, so that what follows
+-- can be read by itself
+abbrev linesWith : Judgement → (DC DH chroma hue : List ℕ) → List ℕ
+linesWith j DC DH chroma hue =
     let d : Differences = j .comparison .differences in
     joined
     (joined (settingLines (j .standard .settings))
@@ -37,24 +39,42 @@ saying j DC DH chroma hue =
     ∷ [])
     ∷ [])
 
--- THESE FOUR LINES ARE WITHHELD, and no other
-pub report-withheld :
-    (j : Judgement) → j .withheld ≡ true →
-    reportText j ≡ saying j (ascii "withheld") (ascii "withheld") (ascii "withheld") (ascii "withheld")
-unfolding reportText figureLines wordLines
-report-withheld j e = rw e
+-- four withheld, and none
+abbrev pub fourWithheld : Judgement → List ℕ
+fourWithheld j = linesWith j (ascii "withheld") (ascii "withheld") (ascii "withheld") (ascii "withheld")
 
--- OR NONE IS
-pub report-whole :
-    (j : Judgement) → j .withheld ≡ false →
-    reportText j
-    ≡ saying j (decimalText (signedFigure (j .comparison .differences .DC)))
+abbrev pub noneWithheld : Judgement → List ℕ
+noneWithheld j =
+    linesWith j (decimalText (signedFigure (j .comparison .differences .DC)))
     (decimalText (signedFigure (j .comparison .differences .DH)))
     (chromaWord (j .chroma)) (hueWord (j .hue))
-unfolding reportText figureLines wordLines
-report-whole j e = rw e
 
--- THE BYTES OF BEFORE WHERE THE TEST SPECIMEN IS NOT ACHROMATIC
-pub report-as-before :
-    (s : Standard) (T : GridColour) → ¬ Achromatic T → reportText (judgementOf s T) ≡ reportText (judgementBefore s T)
-report-as-before s T h = ap reportText (judgement-as-before s T h)
+module _ (j : Judgement) where
+  report-four : j .withheld ≡ true → reportText j ≡ fourWithheld j
+  unfolding reportText figureLines wordLines
+  report-four e = rw e
+
+  report-none : j .withheld ≡ false → reportText j ≡ noneWithheld j
+  unfolding reportText figureLines wordLines
+  report-none e = rw e
+
+module _ (s : Standard) (T : GridColour) where
+  -- FOUR LINES ARE WITHHELD WHERE THE FORMULA IS CMC AND ONE OF THE TWO COLOURS IS ACHROMATIC, OR BOTH ARE
+  pub report-withheld :
+      Withholds (s .settings .formula) (s .colour) T → reportText (judgementOf s T) ≡ fourWithheld (judgementOf s T)
+  report-withheld h = report-four (judgementOf s T) (judgement-withheld s T .1 h)
+
+  -- AND NONE OTHERWISE
+  pub report-whole :
+      ¬ Withholds (s .settings .formula) (s .colour) T → reportText (judgementOf s T) ≡ noneWithheld (judgementOf s T)
+  report-whole h = report-none (judgementOf s T) (not-eq-not .0 (λ e. h (judgement-withheld s T .0 e)))
+
+  -- THE BYTES OF BEFORE, BUT WHERE UNDER CMC THE TEST SPECIMEN ALONE IS ACHROMATIC
+  pub every-other-report :
+      ¬ TestAlone (s .settings .formula) (s .colour) T →
+      reportText (judgementOf s T) ≡ reportText (judgementByReference s T)
+  every-other-report h = ap reportText (judgement-as-before s T h)
+
+  -- AND SO WHEREVER THE TEST SPECIMEN IS NOT ACHROMATIC
+  pub report-as-before : ¬ Achromatic T → reportText (judgementOf s T) ≡ reportText (judgementByReference s T)
+  report-as-before h = every-other-report (λ alone. h (alone .2))
