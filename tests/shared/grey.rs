@@ -3,10 +3,11 @@
 use std::collections::BTreeMap;
 
 use super::paper::conversion::Colour;
+use super::paper::readings::GRID_ONE as ONE;
 use super::paper::settings::Formula;
 
 /// 4 in units, and 16 in their squares.
-const FOUR: i64 = 4 << 20;
+pub const FOUR: i64 = 4 * ONE;
 const SIXTEEN: i64 = FOUR * FOUR;
 
 /// How many reports have been asked for of each kind, under each formula.

@@ -1,6 +1,7 @@
 //! Pairs at the ends of what the sheet tells apart, and a unit to either side.
 
 use crate::aimed::least_delta_l;
+use crate::grey::FOUR;
 use crate::paper::conversion::Colour;
 use crate::paper::readings::{on_grid, GRID_ONE as ONE, LIGHTEST, SIDE};
 use crate::records::{Pairs, Terms, CIE94, CIELAB, CMC};
@@ -66,7 +67,6 @@ fn euclid(p: i128, q: i128) -> [i128; 3] {
 /// a² + b² = 16. On the grid only (±4, 0) and (0, ±4) have that exactly, since a power of 2 is a sum
 /// of two squares in one way at most.
 pub fn achromatic_end(pairs: &mut Pairs) {
-    const FOUR: i64 = 4 * ONE;
     let (mut a, mut b) = (0, FOUR);
     while a <= FOUR {
         // b goes down with a: a² + b² is at most 16, and (b + 1)² would make it more

@@ -21,6 +21,7 @@ module _ {f : Formula} (R T : GridColour) where
   by-reference : f ≡ CMC → achromatic R ≡ true → true ≡ withheldBy f R T
   by-reference e h = rw (e, h)
 
+  -- `achromatic` is opened, so that another bound in its place is refused as a number and not as a name
   by-test : f ≡ CMC → achromatic R ≡ false → achromatic T ≡ withheldBy f R T
   unfolding achromatic
   by-test e h = rw (e, h)
