@@ -18,3 +18,5 @@ pub const BEYOND_256: u32 = 8;
 pub const NO_STANDARD: u32 = 9;
 
 pub const LENGTH: u32 = 10;
+
+pub const COUNT: u32 = 11;

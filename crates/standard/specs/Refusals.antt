@@ -8,12 +8,14 @@ pub mod Laws
 
 -- where a fault can be
 pub data Place : Type 0 where
-  atText atStation atFormula atWhite atL atC atTolerance atReference atTest atRoom : Place
+  atText atStation atCount atFormula atWhite atL atC atTolerance atReference atTest atRoom : Place
   deriving Discrete as place-discrete
 
--- THE ONE ORDER: 7, 9, 1, 2, 3 for l, 3 for c, 4, the reference's 5, 6 or 8, the test specimen's 5, 6 or 8, 10
+-- THE ONE ORDER: 7, 9, 11, 1, 2, 3 for l, 3 for c, 4, the reference's 5, 6 or 8, the test specimen's 5, 6 or 8 or
+-- that of the first refused cone, 10
 abbrev pub order : List Place
-order = atText ∷ atStation ∷ atFormula ∷ atWhite ∷ atL ∷ atC ∷ atTolerance ∷ atReference ∷ atTest ∷ atRoom ∷ []
+order =
+    atText ∷ atStation ∷ atCount ∷ atFormula ∷ atWhite ∷ atL ∷ atC ∷ atTolerance ∷ atReference ∷ atTest ∷ atRoom ∷ []
 
 -- a refusal's number, or 0 where there is no fault
 pub record Fault : Type 0 where

@@ -6,8 +6,8 @@ use mathlib.Core.List.{List, [], _∷_, _++_, map}
 use Prim.Native.Nat.{ℕ}
 use borrow.Author.Tests.{eqb-true, eqb-false, ne-eqb}
 use lib.Dec.{eqb}
-use Rattle.standard.specs.Refusals.{Place, atText, atStation, atFormula, atWhite, atL, atC, atTolerance}
-use Rattle.standard.specs.Refusals.{atReference, atTest, atRoom}
+use Rattle.standard.specs.Refusals.{Place, atText, atStation, atCount, atFormula, atWhite, atL, atC}
+use Rattle.standard.specs.Refusals.{atTolerance, atReference, atTest, atRoom}
 use Rattle.standard.specs.Refusals.{place-discrete, order, Fault, either, numberAt, first, firstOf, refusal}
 
 -- ---- the first of two, and of a list
@@ -45,18 +45,18 @@ firstOf-append (m ∷ ms) ns = go (eqb m 0) refl (firstOf-append ms ns)
 
 -- the order of SCOPE 8.2, whatever order the faults are listed in
 pub in-order :
-    (text station formula white l c tolerance reference test room : ℕ) →
+    (text station count formula white l c tolerance reference test room : ℕ) →
     refusal
     (record { place = atRoom; number = room } ∷ record { place = atTest; number = test }
     ∷ record { place = atReference; number = reference }
     ∷ record { place = atTolerance; number = tolerance } ∷ record { place = atC; number = c }
     ∷ record { place = atL; number = l }
     ∷ record { place = atWhite; number = white } ∷ record { place = atFormula; number = formula }
-    ∷ record { place = atStation; number = station }
+    ∷ record { place = atCount; number = count } ∷ record { place = atStation; number = station }
     ∷ record { place = atText; number = text } ∷ [])
-    ≡ firstOf (text ∷ station ∷ formula ∷ white ∷ l ∷ c ∷ tolerance ∷ reference ∷ test ∷ room ∷ [])
+    ≡ firstOf (text ∷ station ∷ count ∷ formula ∷ white ∷ l ∷ c ∷ tolerance ∷ reference ∷ test ∷ room ∷ [])
 unfolding refusal numberAt
-in-order text station formula white l c tolerance reference test room = refl
+in-order text station count formula white l c tolerance reference test room = refl
 
 -- a lent slice's fault comes after all others of its list
 pub refusal-room :
@@ -65,8 +65,8 @@ pub refusal-room :
 unfolding refusal numberAt firstOf
 refusal-room fs n none =
     let others : List ℕ =
-    map (numberAt fs) (atText ∷ atStation ∷ atFormula ∷ atWhite ∷ atL ∷ atC ∷ atTolerance ∷ atReference ∷ atTest ∷ [])
-    in
+    map (numberAt fs)
+    (atText ∷ atStation ∷ atCount ∷ atFormula ∷ atWhite ∷ atL ∷ atC ∷ atTolerance ∷ atReference ∷ atTest ∷ []) in
     let without : refusal fs ≡ firstOf others =
     firstOf-append others (numberAt fs atRoom ∷ []) ∙ ap (first (firstOf others)) (first-zero _ ∙ none)
     ∙ first-zero (firstOf others) in
