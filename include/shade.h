@@ -1,26 +1,28 @@
 /* shade.h: a colour-difference station for C, in the static library libshade.a (x86-64, Linux).
  *
  * Load a standard, then judge test specimens against it; or hand over a ticket, a text that holds both. The answer is a
- * number, and for a judgement or a ticket a report of twelve lines. examples/host.c shows every call. Besides the calls
- * of the library there are two small functions in this header, for a report's length and for a refusal in words. It
- * needs C99 or C++98.
+ * number, and for a judgement or a ticket a report of twelve lines. examples/host.c shows these calls. Or sort a
+ * delivery that has no standard: each cone against the mean of all, as examples/sort.c shows. Besides the calls of the
+ * library there are two small functions in this header, for a report's length and for a refusal in words. It needs C99
+ * or C++98.
  *
  *     cc -Iinclude -o target/host examples/host.c target/staticlib/libshade.a
  *
  * Nothing is kept between calls but the bytes of the station, and those lie in memory that the host lends.
  *
  * SLICES
- *     A slice is a pointer and, right after it, a length in bytes. The host owns every slice; a call uses it until it
- *     returns and keeps no pointer. An empty slice (length 0) may have a null pointer, which is not followed. Slices of
- *     one call must not overlap. A slice that is not const must not be used by anything else while a call runs.
+ *     A slice is a pointer and, right after it, a length: in bytes, or in doubles where the pointer is to doubles. The
+ *     host owns every slice; a call uses it until it returns and keeps no pointer. An empty slice (length 0) may have a
+ *     null pointer, which is not followed. A slice that is not const must not overlap another slice of the same call,
+ *     and must not be used by anything else while the call runs; slices that are const may overlap each other.
  *     The library has no state, allocates nothing, takes nothing from the C library but memcpy and its like, and
  *     touches no byte outside the slices lent to it. Calls may run in several threads at once, as long as none of them
  *     writes a slice that another one uses.
  *
  * ANSWERS
- *     A load, a judgement or a ticket returns 0, or the number of its refusal. A refused call writes no byte: station
- *     and room stay as they were. Of several refusals that apply, the one given is the first in the order that stands
- *     over each call.
+ *     A load, a judgement or a ticket returns 0, or the number of its refusal; a sort returns a struct whose first
+ *     field is that number. A refused call writes no byte: station, room and results stay as they were. Of several
+ *     refusals that apply, the one given is the first in the order that stands over each call.
  *
  * READINGS
  *     Three doubles. X, Y, Z: from 0 to 150 each, read to the nearest millionth. Or L*, from 0 to 120, and a*, b*, from
@@ -41,15 +43,16 @@ extern "C" {
 #endif
 
 /* THE VERSION
- *     SHADE_VERSION is 100 * MAJOR + MINOR, a number for #if: 1.3 is 103, and SHADE_VERSION >= 104 asks for 1.4 or
+ *     SHADE_VERSION is 100 * MAJOR + MINOR, a number for #if: 1.4 is 104, and SHADE_VERSION >= 104 asks for 1.4 or
  *     later. It is this header's; shade_version() answers that of the library that the host was linked with. Where the
  *     two differ in the major number, the host was compiled for other calls, and should not go on. A higher minor
  *     number: calls were added, or a report can be another one for the same pair. Since 1.2 its figures are the
- *     nearest; since 1.3 an achromatic test specimen withholds as an achromatic reference does. */
+ *     nearest; since 1.3 an achromatic test specimen withholds as an achromatic reference does. Since 1.4 there are the
+ *     sorts. */
 #define SHADE_VERSION_MAJOR 1
-#define SHADE_VERSION_MINOR 3
+#define SHADE_VERSION_MINOR 4
 #define SHADE_VERSION (100 * SHADE_VERSION_MAJOR + SHADE_VERSION_MINOR)
-#define SHADE_VERSION_STRING "1.3"
+#define SHADE_VERSION_STRING "1.4"
 uint32_t shade_version(void);
 
 /* formula: a figure or a tolerance of one is in another unit than one of another: the two are not to be compared. */
@@ -82,6 +85,7 @@ uint32_t shade_version(void);
 #define SHADE_REFUSED_BEYOND_256 8    /* X, Y, Z are in range, but give an a* or b* beyond 256 */
 #define SHADE_REFUSED_NO_STANDARD 9   /* a judgement, and the station holds no standard */
 #define SHADE_REFUSED_LENGTH 10       /* the room is shorter than the report, or a load's slice has another length */
+#define SHADE_REFUSED_COUNT 11        /* a sort: not 2 to 256 cones, or slices that do not have as many */
 
 /* A refusal in words, those of the manual. */
 static inline const char *shade_refusal_text(uint32_t number)
@@ -109,6 +113,8 @@ static inline const char *shade_refusal_text(uint32_t number)
         return "no standard is loaded";
     case SHADE_REFUSED_LENGTH:
         return "a slice that was lent has the wrong length";
+    case SHADE_REFUSED_COUNT:
+        return "not 2 to 256 cones, or slices that do not have as many";
     default:
         return "unknown number";
     }
@@ -244,6 +250,45 @@ uint32_t shade_judge_lab(const uint8_t *station, size_t station_len, double ligh
  *         SHADE_REFUSED_BEYOND_256             for the test specimen, from X, Y, Z only
  *         SHADE_REFUSED_LENGTH                 the room is short */
 uint32_t shade_ticket(const uint8_t *text, size_t text_len, uint8_t *room, size_t room_len, size_t column);
+
+/* SORT
+ *     Takes a delivery of cones that has no standard, by CMC: a white, l, c, and the readings of all cones in three
+ *     slices, cone i being entry i of each. Cones count from 0. It has nothing to do with any station.
+ *
+ *     The reference is the mean: of the cones' L*, of their a* and of their b*, each by itself, to the nearest
+ *     1/1048576, a tie away from zero. X, Y, Z are converted first, cone by cone, and never averaged. Each cone's DE
+ *     from the mean goes into de, entry i for cone i; entries past the count stay.
+ *
+ *     What it hands back: the refusal or 0; the mean; the cone with the greatest DE, the lowest number if several have
+ *     it; how many cones there were. On a refusal all fields but number are 0, and de stays whole; but where a cone was
+ *     refused, cone is the number of that cone, which can be 0 as well: number says whether there is one.
+ *
+ *     Refusals, in this order; no other is given:
+ *
+ *         SHADE_REFUSED_COUNT                  fewer than SHADE_CONES_LEAST cones or more than SHADE_CONES_MOST, or
+ *                                              three counts that are not equal, or de_count below them
+ *         SHADE_REFUSED_WHITE
+ *         SHADE_REFUSED_FACTOR                 for l, then for c
+ *         then for each cone in turn, from cone 0 on; the first refused cone decides:
+ *         SHADE_REFUSED_NOT_A_NUMBER           for any of its three readings
+ *         SHADE_REFUSED_OUT_OF_RANGE           for any of them
+ *         SHADE_REFUSED_BEYOND_256             from X, Y, Z only */
+#define SHADE_CONES_LEAST 2
+#define SHADE_CONES_MOST 256
+
+typedef struct {
+    uint32_t number;        /* 0, or the refusal */
+    uint32_t cone;          /* the refused cone; else 0 */
+    double lightness, a, b; /* the mean */
+    uint32_t farthest;      /* the cone that is farthest from it */
+    uint32_t cones;         /* how many */
+} shade_sorted;
+
+shade_sorted shade_sort_xyz(uint32_t white, uint32_t l, uint32_t c, const double *x, size_t x_count, const double *y,
+                            size_t y_count, const double *z, size_t z_count, double *de, size_t de_count);
+shade_sorted shade_sort_lab(uint32_t white, uint32_t l, uint32_t c, const double *lightness, size_t lightness_count,
+                            const double *a, size_t a_count, const double *b, size_t b_count, double *de,
+                            size_t de_count);
 
 #ifdef __cplusplus
 }

@@ -1,18 +1,20 @@
 -- docs/SCOPE.md 8.1 to 8.3, "Each is given exactly then": a row for each call and each number that it can give. The
 -- number is k exactly where the rule of k holds and none before it does, and 0 exactly where none holds. The rules of
 -- settings and of the station's slice are in `station`'s Record/Exactly.antt, those of a reading in `colour`'s
--- Placed/Exactly.antt, those of a ticket's text in `ticket`'s Ticket/Grammar.antt; `NoneOf` says that none of a list
--- holds. Proofs are in Exactly/. Assumes nothing.
+-- Placed/Exactly.antt, those of a ticket's text in `ticket`'s Ticket/Grammar.antt, the first refused cone in `cones`'
+-- Cones/Exactly.antt; `NoneOf` says that none of a list holds. Proofs are in Exactly/. Assumes nothing.
 use mathlib.Core.Path.{_≡_}
 use mathlib.Core.List.{List, [], _∷_, _++_}
 use mathlib.Core.Logic.{_↔_, _⊎_}
 use Prim.Native.Nat.{ℕ, _+_, _<_}
+use lib.Ieee.{Float}
 use lib.ListN.{length}
 use Rattle.colour.specs.Placed.Exactly.{NotFinite, OutOfRange, Beyond, WrittenOutOfRange, WrittenBeyond}
 use Rattle.colour.specs.White.{whiteNumbered}
 use Rattle.colour.specs.declared.placed.Reading.{Reading}
 use Rattle.colour.specs.declared.white.White.{White}
 use Rattle.colour.specs.declared.white.Numbered.the-variants.{Is}
+use Rattle.cones.specs.Cones.Exactly.{FirstBy, OutAlone, BeyondAlone}
 use Rattle.ticket.specs.Ticket.{ticketOf}
 use Rattle.ticket.specs.Ticket.Grammar.{WrongAt, Consists}
 use Rattle.ticket.specs.declared.lines.Ticket.{Ticket}
@@ -22,7 +24,7 @@ use Rattle.standard.specs.declared.judge.Judgement.{Judgement}
 use Rattle.standard.specs.declared.judge.Outcome.{Outcome}
 use Rattle.standard.specs.declared.judge.Outcome.the-variants.{Judged}
 use Rattle.station.specs.Record.{decode}
-use Rattle.station.specs.Record.Exactly.{NoFormula, NoWhite, FactorsOut, ToleranceOut, NoStandard}
+use Rattle.station.specs.Record.Exactly.{Outside, NoFormula, NoWhite, FactorsOut, ToleranceOut, NoStandard}
 use Rattle.station.specs.declared.Station.the-variants.{Holds}
 use Rattle.calls.specs.Outcome.{judgedBy, ticketOutcome}
 use Rattle.calls.specs.Calls.Numbers.{OneOf}
@@ -33,6 +35,7 @@ pub mod Rules
 pub mod Loads
 pub mod Judgements
 pub mod Tickets
+pub mod Sorts
 pub mod Refused
 
 -- ---- A LOAD: 1, 2, 3, 4, then the reference's 5, 6, 8, then 10
@@ -169,3 +172,55 @@ pub record TicketByCall (number : ℕ) (text room : List ℕ) (column : ℕ) : T
   pub rows : TicketRows number text
   pub is-10 : number ≡ 10 ↔ (RoomShort (ticketOutcome (ticketOf text)) room column × NoneOf (wrongTicket text))
   pub is-0 : number ≡ 0 ↔ NoneOf (wrongTicket text ++ (RoomShort (ticketOutcome (ticketOf text)) room column ∷ []))
+
+-- ---- A SORT: 11, 2, 3, then each cone in turn by 5, 6, 8
+
+-- 11: not 2 to 256 cones, or lists of another length, or fewer entries of the result than cones
+pub data WrongCount (xs ys zs : List Float) (room : ℕ) : Type 0 where
+  of-count : Outside 2 256 (length xs) → WrongCount xs ys zs room
+  of-room : room < length xs → WrongCount xs ys zs room
+  of-second : ¬ (length ys ≡ length xs) → WrongCount xs ys zs room
+  of-third : ¬ (length zs ≡ length xs) → WrongCount xs ys zs room
+
+-- cone i has A, and all before it are accepted, in the white that is numbered
+abbrev pub FirstIn : (white : ℕ) (A : White → Reading → Type 0) → List Reading → (i : ℕ) → Type 0
+FirstIn white A rs i = (w : White) × (whiteNumbered white ≡ Is w) × FirstBy w (A w) rs i
+
+abbrev pub SomeFirst : (white : ℕ) (A : White → Reading → Type 0) → List Reading → Type 0
+SomeFirst white A rs = (i : ℕ) × FirstIn white A rs i
+
+-- 5, 6, 8 of the first refused cone
+module _ (white : ℕ) (rs : List Reading) where
+  abbrev pub ConeNotFinite : Type 0
+  ConeNotFinite = SomeFirst white (λ w. NotFinite) rs
+
+  abbrev pub ConeOut : Type 0
+  ConeOut = SomeFirst white (λ w. OutAlone w) rs
+
+  abbrev pub ConeBeyond : Type 0
+  ConeBeyond = SomeFirst white BeyondAlone rs
+
+module _ (white l c : ℕ) (xs ys zs : List Float) (room : ℕ) where
+  -- 11, 2, 3
+  abbrev pub wrongCall : List (Type 0)
+  wrongCall = WrongCount xs ys zs room ∷ NoWhite white ∷ FactorsOut l c ∷ []
+
+  pub record SortRows (rs : List Reading) (number : ℕ) : Type 0 where
+    pub one-of : OneOf number (0 ∷ 2 ∷ 3 ∷ 5 ∷ 6 ∷ 8 ∷ 11 ∷ [])
+    pub is-11 : number ≡ 11 ↔ WrongCount xs ys zs room
+    pub is-2 : number ≡ 2 ↔ (NoWhite white × NoneOf (WrongCount xs ys zs room ∷ []))
+    pub is-3 : number ≡ 3 ↔ (FactorsOut l c × NoneOf (WrongCount xs ys zs room ∷ NoWhite white ∷ []))
+    pub is-5 : number ≡ 5 ↔ (ConeNotFinite white rs × NoneOf wrongCall)
+    pub is-6 : number ≡ 6 ↔ (ConeOut white rs × NoneOf (wrongCall ++ (ConeNotFinite white rs ∷ [])))
+    pub is-8 :
+        number ≡ 8 ↔ (ConeBeyond white rs × NoneOf (wrongCall ++ (ConeNotFinite white rs ∷ ConeOut white rs ∷ [])))
+    pub is-0 :
+        number ≡ 0
+        ↔ NoneOf (wrongCall ++ (ConeNotFinite white rs ∷ ConeOut white rs ∷ ConeBeyond white rs ∷ []))
+
+-- which cone: with 5, 6 or 8 the first refused one, and with any other number 0
+pub record RefusedCone (white : ℕ) (rs : List Reading) (number cone : ℕ) : Type 0 where
+  pub of-5 : number ≡ 5 → FirstIn white (λ w. NotFinite) rs cone
+  pub of-6 : number ≡ 6 → FirstIn white (λ w. OutAlone w) rs cone
+  pub of-8 : number ≡ 8 → FirstIn white BeyondAlone rs cone
+  pub of-other : OneOf number (0 ∷ 2 ∷ 3 ∷ 11 ∷ []) → cone ≡ 0

@@ -7,13 +7,22 @@
 -- answer is just `referenceAnswer ..`, `specimenAnswer ..` or `ticketAnswer ..`; or that its number n and the bytes ys
 -- of its slice afterwards are those of a call, `Gives (loadCall ..) n ys`. What follows holds of every such answer. The
 -- numbers and the rows, one for each number, are the fields of `LoadByValue`, `LoadByCall` and so on, which stand in
--- crates/calls/specs/Exactly.antt. Assumes nothing.
-use mathlib.Core.Path.{_≡_, ap}
+-- crates/calls/specs/Exactly.antt. A sort hands back a struct and writes a lent slice, for a host in Rattle (`sort` of
+-- crates/delivery) and from C alike: its contract is `Sorts ..`. Assumes nothing.
+use mathlib.Core.Path.{_≡_, sym, ap, ap₂, subst, _∙_}
 use mathlib.Core.List.{List, [], _∷_}
 use Prim.Native.Nat.{ℕ}
 use lib.Ieee.{Float}
+use lib.ListN.{length}
 use Rattle.colour.specs.declared.placed.Reading.{Reading}
 use Rattle.colour.specs.declared.placed.Reading.the-variants.{Xyz, Lab}
+use Rattle.cones.specs.InTurn.{numberOf, indexOf}
+use Rattle.cones.specs.Cones.{readingsOf}
+use Rattle.cones.specs.declared.Kind.{Kind}
+use Rattle.cones.specs.declared.Kind.the-variants as K
+use Rattle.delivery.specs.Sorted.{isShaped, refusedWith, sortCall, Sorts}
+use Rattle.delivery.specs.Sorted.Laws.{answer-number, answer-cone, refusal-kept}
+use Rattle.delivery.specs.declared.sorted.Sorted.{Sorted}
 use Rattle.ticket.specs.Ticket.{ticketOf}
 use Rattle.ticket.specs.Ticket.Grammar.{WrongAt}
 use Rattle.ticket.specs.Ticket.Grammar.Wrong.{wrong-exactly}
@@ -30,9 +39,11 @@ use Rattle.calls.specs.declared.figures.TicketAnswer.{TicketAnswer}
 use Rattle.calls.specs.Calls.{Gives, loadCall, judgeCall, ticketCall}
 use Rattle.calls.specs.Calls.Numbers.{OneOf}
 use Rattle.calls.specs.Exactly.{LoadByValue, LoadByCall, JudgeByValue, JudgeByCall, TicketByValue, TicketByCall}
+use Rattle.calls.specs.Exactly.{SortRows, RefusedCone}
 use Rattle.calls.specs.Exactly.Loads.{load-by-value, load-by-call}
 use Rattle.calls.specs.Exactly.Judgements.{judge-by-value, judge-by-call}
 use Rattle.calls.specs.Exactly.Tickets.{ticket-by-value, ticket-by-call}
+use Rattle.calls.specs.Exactly.Sorts.{sort-rows, refused-cone}
 use Rattle.calls.specs.Exactly.Refused.{reference-answers, specimen-answers}
 use Rattle.calls.specs.Exactly.Refused.{load-kept, judge-kept, ticket-kept, given-kept, numberGiven, station-kept}
 use Rattle.calls.specs.Runs.{Call, sliceAfter}
@@ -147,3 +158,45 @@ pub standard-stays :
     (xs : List ℕ) (call : Call) → ¬ (numberGiven xs call ≡ 0) →
     (sliceAfter xs (call ∷ []) ≡ xs) × (decode (sliceAfter xs (call ∷ [])) ≡ decode xs)
 standard-stays xs call some = let same = station-kept xs call some in (same, ap decode same)
+
+-- ---- A SORT
+
+module _ (k : Kind) (white l c : ℕ) (xs ys zs de : List Float) where
+  -- each number exactly then, with the cone that it is of; and with any but 0 every other field is 0 or 0.0, and no
+  -- entry of the slice is written
+  pub record SortGiven (r : Sorted) (left : List Float) : Type 0 where
+    pub rows : SortRows white l c xs ys zs (length de) (readingsOf k xs ys zs) (r .number)
+    pub cone : RefusedCone white (readingsOf k xs ys zs) (r .number) (r .cone)
+    pub kept : ¬ (r .number ≡ 0) → (r ≡ refusedWith (r .number) (r .cone)) × (left ≡ de)
+
+  -- `sort`
+  pub sort-given : {r : Sorted} {left : List Float} → Sorts k white l c xs ys zs de r left → SortGiven r left
+  sort-given {r} {left} g =
+      let t = sortCall k white l c xs ys zs (length de) in
+      let n : numberOf t ≡ r .number = sym (answer-number l c t) ∙ sym (ap (λ (a : Sorted). a .number) (g .answer)) in
+      let i : indexOf t ≡ r .cone = sym (answer-cone l c t) ∙ sym (ap (λ (a : Sorted). a .cone) (g .answer)) in
+      record {
+        rows =
+            subst (SortRows white l c xs ys zs (length de) (readingsOf k xs ys zs)) n
+            (sort-rows white l c xs ys zs (length de) (readingsOf k xs ys zs));
+        cone =
+            subst (λ (m : ℕ). RefusedCone white (readingsOf k xs ys zs) m (r .cone)) n
+            (subst (RefusedCone white (readingsOf k xs ys zs) (numberOf t)) i
+            (refused-cone white (readingsOf k xs ys zs) (isShaped xs ys zs (length de)) l c));
+        kept =
+            λ some.
+            let (same, left-is) = refusal-kept l c t de (λ none. some (sym n ∙ none)) in
+            (g .answer ∙ same ∙ ap₂ refusedWith n i, g .left ∙ left-is);
+      }
+
+-- `shade_sort_xyz`
+pub shade-sort-xyz :
+    (white l c : ℕ) (x y z de : List Float) {r : Sorted} {left : List Float} → Sorts K.Xyz white l c x y z de r left →
+    SortGiven K.Xyz white l c x y z de r left
+shade-sort-xyz white l c x y z de g = sort-given K.Xyz white l c x y z de g
+
+-- `shade_sort_lab`
+pub shade-sort-lab :
+    (white l c : ℕ) (lightness a b de : List Float) {r : Sorted} {left : List Float} →
+    Sorts K.Lab white l c lightness a b de r left → SortGiven K.Lab white l c lightness a b de r left
+shade-sort-lab white l c lightness a b de g = sort-given K.Lab white l c lightness a b de g

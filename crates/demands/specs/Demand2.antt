@@ -14,16 +14,26 @@ use mathlib.Core.Bool.{true}
 use mathlib.Core.Logic.{_↔_, _⊎_}
 use mathlib.Core.List.{List}
 use Prim.Native.Nat.{ℕ}
+use lib.Ieee.{Float}
 use Rattle.colour.specs.Conversion.{atPlaces}
 use Rattle.colour.specs.Placed.{place, placeWritten}
 use Rattle.colour.specs.declared.conversion.GridColour.{GridColour}
 use Rattle.colour.specs.declared.placed.Placed.the-variants.{At}
 use Rattle.colour.specs.declared.placed.Reading.{Reading}
+use Rattle.colour.specs.declared.placed.Reading.the-variants.{Lab}
+use Rattle.colour.specs.declared.white.White.{White}
 use Rattle.sheet.specs.Sheet.{chromaOf, shift, sheet, comparison, verdict}
+use Rattle.sheet.specs.declared.differences.Differences.{Differences}
 use Rattle.sheet.specs.declared.formula.Formula.the-variants.{CMC}
 use Rattle.sheet.specs.declared.settings.Settings.{Settings}
 use Rattle.names.specs.Names.{lightnessName, chromaName, hueName}
 use Rattle.names.specs.Names.Withheld.{Achromatic}
+use Rattle.cones.specs.declared.Kind.{Kind}
+use Rattle.delivery.specs.Sorted.{Sorts}
+use Rattle.delivery.specs.Sorted.Exact.{Delivery, HandedBack as DeliveryHandedBack, sorted-by-the-sheet}
+use Rattle.delivery.specs.Sorted.Exact.{mean, cone, DE, mean-in-range}
+use Rattle.delivery.specs.Delivery.{differenceFrom}
+use Rattle.delivery.specs.declared.sorted.Sorted.{Sorted}
 use Rattle.ticket.specs.Ticket.{ticketOf}
 use Rattle.ticket.specs.Ticket.Grammar.{Consists}
 use Rattle.ticket.specs.Ticket.Grammar.Right.{right-exactly}
@@ -52,6 +62,7 @@ use Rattle.calls.specs.Outcome.Judge.{judged-said, judge-number, judge-room, ju
 use Rattle.calls.specs.Outcome.Ticket.{ticket-said, ticket-number, ticket-room, ticket-some}
 use Rattle.calls.specs.Line.{ticketAnswer}
 use Rattle.calls.specs.Calls.{Answer, loadCall, judgeCall, ticketCall}
+use Rattle.calls.specs.Calls.Every.{place-back}
 use Rattle.calls.specs.Calls.Exact.{load-exact, judge-exact, ticket-exact}
 use Rattle.calls.specs.Calls.Ticket.{BothSay, onceLoaded, onceStored, ticket-does-both, ticket-call-does-both}
 use Rattle.calls.specs.Runs.{Call, sliceAfter, loads}
@@ -230,3 +241,31 @@ module _ (cs : List Call) where
   unfolding fresh
   none-accepted none r room column =
       run-judge cs r room column ∙ rw none (zeros-judge r room column)
+
+-- ---- a sort
+
+-- what an accepted sort hands back and writes is the sheet's, of the mean and each cone: `Delivery` has the white and
+-- the colours of all cones, `HandedBack` the mean, each cone's DE, the entries past the count and the farthest, in
+-- crates/delivery/specs/Sorted/Exact.antt. No station is read or written
+pub sorted-as :
+    (k : Kind) (white l c : ℕ) (xs ys zs de : List Float) {r : Sorted} {left : List Float} →
+    Sorts k white l c xs ys zs de r left → r .number ≡ 0 →
+    (d : Delivery k white l c xs ys zs de) × DeliveryHandedBack d r left
+sorted-as k white l c xs ys zs de g none = sorted-by-the-sheet k white l c xs ys zs de g none
+
+-- its mean, as it was handed back, is read as the mean in any white
+pub mean-as-a-standard :
+    (k : Kind) (white l c : ℕ) (xs ys zs de : List Float) {r : Sorted} {left : List Float}
+    (d : Delivery k white l c xs ys zs de) → DeliveryHandedBack d r left →
+    (w : White) → place w (Lab (r .lightness) (r .a) (r .b)) ≡ At (mean d)
+mean-as-a-standard k white l c xs ys zs de d h w =
+    rw (h .lightness .is, h .a .is, h .b .is) (place-back w (mean d) (mean-in-range d))
+
+-- and a cone that is judged by it, under CMC with the same l and c, has the same DE
+pub judged-by-the-mean :
+    (k : Kind) (white l c : ℕ) (xs ys zs de : List Float) (d : Delivery k white l c xs ys zs de) (i : ℕ)
+    (by : Settings) {j : Judgement} → by .formula ≡ CMC → by .l ≡ l → by .c ≡ c →
+    OfTheSheet by (mean d) (cone d i) j → j .comparison .differences .DE ≡ DE d i
+unfolding differenceFrom
+judged-by-the-mean k white l c xs ys zs de d i by ef el ec o =
+    ap (λ (x : Differences). x .DE) (o .differences) ∙ rw (ef, el, ec)

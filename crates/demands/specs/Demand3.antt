@@ -9,10 +9,12 @@
 -- It counts units of 2 ^ -n; l, c and the tolerance count thousandths. So in thousandths of a unit of 2 ^ -n DE is
 -- 1000 * DE n, the tolerance is tolerance * 2 ^ n, and 0.002 is 2 * 2 ^ n. The argument is in crates/finer;
 -- docs/FINER.md is its guide. Assumes nothing.
-use mathlib.Core.Path.{_≡_, sym, subst}
+use mathlib.Core.Path.{_≡_, refl, sym, subst}
 use mathlib.Core.List.{List}
 use Prim.Native.Nat.{ℕ, _-_, _*_, _^_, _≤_, _<_}
 use native.Mathlib.Omega.{arith}
+use lib.Ieee.{Float}
+use lib.ListN.{length}
 use Rattle.rounding.specs.Nearest.{apart}
 use Rattle.colour.specs.Conversion.Ranges.{OnGrid}
 use Rattle.colour.specs.declared.conversion.GridColour.{GridColour}
@@ -20,8 +22,12 @@ use Rattle.colour.specs.declared.placed.Reading.{Reading}
 use Rattle.sheet.specs.Settings.{Factor, Tolerance}
 use Rattle.sheet.specs.Sheet.{sheet, verdict}
 use Rattle.sheet.specs.declared.formula.Formula.{Formula}
+use Rattle.sheet.specs.declared.formula.Formula.the-variants.{CMC}
 use Rattle.sheet.specs.declared.verdict.Verdict.the-variants.{Near, Pass, Fail}
 use Rattle.finer.specs.Finer.{VerdictKept, no-finer-sheet-changes-a-verdict}
+use Rattle.cones.specs.declared.Kind.{Kind}
+use Rattle.delivery.specs.Delivery.{differenceFrom}
+use Rattle.delivery.specs.Sorted.Exact.{Delivery, mean, cone, DE as DE-of, cone-on-grid, mean-in-range}
 use Rattle.ticket.specs.Ticket.{ticketOf}
 use Rattle.standard.specs.Judgement.{judgementOf, Specimen}
 use Rattle.standard.specs.Judgement.Laws.{verdict-is}
@@ -101,3 +107,33 @@ judgement-given xs r e = let said = judged-said xs r e in given (said .is) (said
 -- A TICKET'S, whatever its text is
 pub ticket-given : (text : List ℕ) {j : Judgement} → ticketOutcome (ticketOf text) ≡ Judged j → Given j
 ticket-given text e = let said = ticket-said (ticketOf text) e in given (said .is) (said .asked)
+
+-- ---- of every cone that is sorted
+
+-- the sheet of cone i against the mean, at n places
+abbrev pub coneDE :
+    {k : Kind} {white l c : ℕ} {xs ys zs de : List Float} → Delivery k white l c xs ys zs de → (i n : ℕ) → ℕ
+coneDE {l = l} {c = c} d i n = sheet n CMC l c (mean d) (cone d i) .DE
+
+-- A CONE'S, against the mean as it stands on the grid, whatever is sorted, and at any tolerance that it is held to
+pub cone-kept :
+    {k : Kind} {white l c : ℕ} {xs ys zs de : List Float} (d : Delivery k white l c xs ys zs de) (i : ℕ) →
+    i < length xs → {tolerance : ℕ} → Tolerance tolerance → (n : ℕ) → 20 ≤ n →
+    VerdictKept n tolerance (coneDE d i 20) (coneDE d i n)
+cone-kept d i few in-range n from20 =
+    kept CMC (d .call .lightness) (d .call .chroma) in-range (mean-in-range d) (cone-on-grid d i few) n from20
+
+-- SO WHERE ITS DE IS AT MOST 10, NO FINER SHEET MOVES IT BY 0.002 OR MORE
+pub cone-moves-by-less :
+    {k : Kind} {white l c : ℕ} {xs ys zs de : List Float} (d : Delivery k white l c xs ys zs de) (i : ℕ) →
+    i < length xs → coneDE d i 20 ≤ 10 * 2 ^ 20 → (n : ℕ) → 20 ≤ n →
+    1000 * apart (coneDE d i n) (2 ^ (n - 20) * coneDE d i 20) < 2 * 2 ^ n
+cone-moves-by-less d i few small n from20 =
+    cone-kept d i few {tolerance = 1000} (record { low = omega arith; high = omega arith }) n from20 .unmoved small
+
+-- and the DE that a sort hands back of cone i is this one at 20 places (`sorted-as`, Demand2.antt)
+pub handed-back-at-20 :
+    {k : Kind} {white l c : ℕ} {xs ys zs de : List Float} (d : Delivery k white l c xs ys zs de) (i : ℕ) →
+    DE-of d i ≡ coneDE d i 20
+unfolding differenceFrom
+handed-back-at-20 d i = refl

@@ -6,12 +6,12 @@ pub major : ℕ
 major = 1
 
 pub minor : ℕ
-minor = 3
+minor = 4
 
 pub version : ℕ
 version = 100 * major + minor
 
--- of 1.3 it is 103
-pub in-figures : 103 ≡ version
+-- of 1.4 it is 104
+pub in-figures : 104 ≡ version
 unfolding version major minor
 in-figures = refl

@@ -3,11 +3,16 @@ use calls::judge_call;
 use calls::load_call;
 use calls::ticket_call;
 use colour::placed::Reading;
+use cones::Kind;
+use delivery::Sorted;
+use delivery::sort;
 ghost use mathlib.Core.Path.{_≡_};
 ghost use Rattle.shade.specs.Version.{version};
 ghost use Rattle.colour.specs.declared.placed.Reading.the-variants.{Xyz, Lab};
 ghost use Rattle.calls.specs.Calls.{Gives, loadCall, judgeCall, ticketCall};
 ghost use Rattle.calls.specs.Runs.{AsFresh};
+ghost use Rattle.cones.specs.declared.Kind.the-variants as K;
+ghost use Rattle.delivery.specs.Sorted.{Sorts};
 
 #[no_mangle]
 pub extern "C" fn shade_load_xyz(
@@ -104,9 +109,43 @@ pub extern "C" fn shade_ticket(text: &[u8], room: &mut [u8], column: usize) -> u
     ticket_call(text, room, column)
 }
 
+#[no_mangle]
+pub extern "C" fn shade_sort_xyz(
+    white: u32,
+    l: u32,
+    c: u32,
+    x: &[f64],
+    y: &[f64],
+    z: &[f64],
+    de: &mut [f64],
+) -> Sorted
+    ensures { λ r.
+        ⌜ Sorts K.Xyz white l c (now (x .entry)) (now (y .entry)) (now (z .entry)) (now (de .entry)) r
+        (now (de .exit)) ⌝ }
+{
+    sort(Kind::Xyz, white, l, c, x, y, z, de)
+}
+
+#[no_mangle]
+pub extern "C" fn shade_sort_lab(
+    white: u32,
+    l: u32,
+    c: u32,
+    lightness: &[f64],
+    a: &[f64],
+    b: &[f64],
+    de: &mut [f64],
+) -> Sorted
+    ensures { λ r.
+        ⌜ Sorts K.Lab white l c (now (lightness .entry)) (now (a .entry)) (now (b .entry)) (now (de .entry)) r
+        (now (de .exit)) ⌝ }
+{
+    sort(Kind::Lab, white, l, c, lightness, a, b, de)
+}
+
 const MAJOR: u32 = 1;
 
-const MINOR: u32 = 3;
+const MINOR: u32 = 4;
 
 // SHADE_VERSION of the header that this library was made with.
 #[no_mangle]

@@ -52,10 +52,10 @@ outside low high n nowhere = go (leb low n) refl (leb n high) refl
     go true hp true hq = absurd (nowhere (leb-true low n hp) (leb-true n high hq))
 
 module _ (low high n : ℕ) where
-  inside-of : within low high n ≡ true → ¬ (Outside low high n)
+  pub inside-of : within low high n ≡ true → ¬ (Outside low high n)
   inside-of e = let (l, h) = within-true low high n e in inside l h
 
-  outside-of : within low high n ≡ false → Outside low high n
+  pub outside-of : within low high n ≡ false → Outside low high n
   outside-of e = outside low high n (λ l h. true≢false (sym (within-in low high n l h) ∙ e))
 
 -- ---- numbers become settings, unless one names nothing
@@ -77,11 +77,11 @@ formulas n = go (eqb n 1) refl (eqb n 2) refl (eqb n 3) refl
     go false hp false hq false hr =
         formula-none (outside 1 3 n (λ l h. omega (arith, eqb-false n 1 hp, eqb-false n 2 hq, eqb-false n 3 hr)))
 
-data Whites (n : ℕ) : Numbered → Type 0 where
+pub data Whites (n : ℕ) : Numbered → Type 0 where
   white-none : NoWhite n → Whites n W.Unknown
   white-one : ¬ (NoWhite n) → (w : White) → Whites n (W.Is w)
 
-whites : (n : ℕ) → Whites n (whiteNumbered n)
+pub whites : (n : ℕ) → Whites n (whiteNumbered n)
 unfolding whiteNumbered
 whites n = go (eqb n 1) refl (eqb n 2) refl (eqb n 3) refl (eqb n 4) refl
   where
