@@ -17,7 +17,7 @@ pub const WHITES: [[u128; 3]; 4] = [
 ];
 
 /// SCOPE 8.1: refusal 2 if the number is not 1 to 4.
-fn white_numbered(number: u32) -> Answer<[u128; 3]> {
+pub fn white_numbered(number: u32) -> Answer<[u128; 3]> {
     match number {
         1..=4 => Ok(WHITES[number as usize - 1]),
         _ => Err(WRONG_WHITE),

@@ -9,6 +9,8 @@
 mod cases;
 pub mod cmc;
 pub mod conversion;
+mod deliveries;
+pub mod delivery;
 pub mod handed;
 pub mod names;
 pub mod numbers;
@@ -31,5 +33,6 @@ pub fn check() {
     cases::check();
     texts::check();
     refused::check();
+    deliveries::check();
     station::check_layout();
 }

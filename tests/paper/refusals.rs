@@ -14,3 +14,5 @@ pub const BEYOND_256: u32 = 8;
 pub const NO_STANDARD: u32 = 9;
 /// The lent room is shorter than the report, or the slice of a load is not a station's length.
 pub const WRONG_LENGTH: u32 = 10;
+/// A sort: the count of cones is not 2 to 256, or the slices do not have it.
+pub const WRONG_COUNT: u32 = 11;

@@ -30,7 +30,7 @@ impl Reading {
     }
 
     /// All of 5, 6 and 8 that apply, in this order. 8 asks for readings that are in range.
-    fn faults(&self, white: u32) -> Vec<u32> {
+    pub fn faults(&self, white: u32) -> Vec<u32> {
         let quantities = self.space.quantities();
         let single = [0, 1, 2].map(|place: usize| {
             let units = reading_units(quantities[place], self.bits[place]);

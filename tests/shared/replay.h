@@ -68,12 +68,12 @@ static inline struct answer of_specimen(probe_specimen s)
 }
 
 /* By their bits: -0.0 is not 0.0. */
-static int answers_agree(const struct answer *got, const struct answer *wanted)
+static inline int answers_agree(const struct answer *got, const struct answer *wanted)
 {
     return memcmp(got, wanted, sizeof *got) == 0;
 }
 
-static void show_answer(const struct answer *got, const struct answer *wanted)
+static inline void show_answer(const struct answer *got, const struct answer *wanted)
 {
     static const char *const words[WORDS] = {"lightness", "chroma", "hue", "bracket", "verdict"};
     static const char *const figures[FIGURES] = {"L*", "a*", "b*", "C", "DL or SL", "DC or SC", "DH or SH", "DE"};
