@@ -6,6 +6,8 @@
 typedef uint32_t load(uint8_t *, size_t, uint32_t, uint32_t, uint32_t, uint32_t, uint32_t, double, double, double);
 typedef uint32_t judge(const uint8_t *, size_t, double, double, double, uint8_t *, size_t, size_t);
 typedef uint32_t ticket(const uint8_t *, size_t, uint8_t *, size_t, size_t);
+typedef shade_sorted sort(uint32_t, uint32_t, uint32_t, const double *, size_t, const double *, size_t, const double *,
+                          size_t, double *, size_t);
 typedef uint32_t version(void);
 
 /* A second declaration is refused if it does not agree with the first, in C++ also about C's names. */
@@ -15,6 +17,7 @@ extern "C" {
 extern load shade_load_xyz, shade_load_lab;
 extern judge shade_judge_xyz, shade_judge_lab;
 extern ticket shade_ticket;
+extern sort shade_sort_xyz, shade_sort_lab;
 extern version shade_version;
 #ifdef __cplusplus
 }
@@ -57,6 +60,7 @@ IS(SHADE_REFUSED_TICKET, 7);
 IS(SHADE_REFUSED_BEYOND_256, 8);
 IS(SHADE_REFUSED_NO_STANDARD, 9);
 IS(SHADE_REFUSED_LENGTH, 10);
+IS(SHADE_REFUSED_COUNT, 11);
 
 /* SCOPE 1.4, 10.2, 10.1 and 9.1 */
 IS(SHADE_STATION_BYTES, 20);
@@ -64,9 +68,33 @@ IS(SHADE_REPORT_BYTES, 161);
 IS(SHADE_REPORT_LINES, 12);
 IS(SHADE_TICKET_BYTES, 4096);
 
+/* SCOPE 13.4: what a sort hands back, in this order and without padding, each field of this type. */
+#define LIES(field, place) extern char field##_lies_at_##place[offsetof(shade_sorted, field) == (place) ? 1 : -1]
+LIES(number, 0);
+LIES(cone, 4);
+LIES(lightness, 8);
+LIES(a, 16);
+LIES(b, 24);
+LIES(farthest, 32);
+LIES(cones, 36);
+extern char sorted_has_40_bytes[sizeof(shade_sorted) == 40 ? 1 : -1];
+
+extern void fields(shade_sorted *, uint32_t **, double **);
+void fields(shade_sorted *sorted, uint32_t **numbers, double **figures)
+{
+    numbers[0] = &sorted->number;
+    numbers[1] = &sorted->cone;
+    numbers[2] = &sorted->farthest;
+    numbers[3] = &sorted->cones;
+    figures[0] = &sorted->lightness;
+    figures[1] = &sorted->a;
+    figures[2] = &sorted->b;
+}
+
 /* The version is a number that an #if can take. */
 IS(SHADE_VERSION_MAJOR, 1);
-IS(SHADE_VERSION_MINOR, 3);
-#if SHADE_VERSION != 100 * SHADE_VERSION_MAJOR + SHADE_VERSION_MINOR || SHADE_VERSION < 103
+IS(SHADE_VERSION_MINOR, 4);
+#if SHADE_VERSION != 100 * SHADE_VERSION_MAJOR + SHADE_VERSION_MINOR || SHADE_VERSION < 104
 #error "SHADE_VERSION is not 100 * MAJOR + MINOR"
 #endif
+IS(SHADE_VERSION, 104);

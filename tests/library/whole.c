@@ -1,6 +1,7 @@
 /* The whole case of SCOPE 11.1 through libshade.a: the ticket's report from a column of a lent room, byte for byte,
- * every other byte kept; the same pair loaded and judged; and refused calls, which write nothing. Then what the header
- * has beside the calls: the length of a report after a longer one in the same room, the words, the version.
+ * every other byte kept; the same pair loaded and judged; and refused calls, which write nothing. Deliveries sorted
+ * (SCOPE 13). Then what the header has beside the calls: the length of a report after a longer one in the same room,
+ * the words, the version.
  *
  * Usage: whole
  *
@@ -96,13 +97,47 @@ static void lengths(void)
     same("just its bytes", shade_report_length(room + COLUMN, shorter) == shorter);
 }
 
+/* Whether a sort handed this back, and left these four entries in its result slice. */
+static int is_sorted(shade_sorted s, shade_sorted wanted, const double *de, const double *entries)
+{
+    int is = s.number == wanted.number && s.cone == wanted.cone && s.lightness == wanted.lightness && s.a == wanted.a &&
+             s.b == wanted.b && s.farthest == wanted.farthest && s.cones == wanted.cones;
+    for (size_t at = 0; at < 4; at++)
+        is = is && de[at] == entries[at];
+    return is;
+}
+
+/* A refused cone and a count of 1, which leave the result slice as it was. Cones about a mean of (50, 0, 0): the pair
+ * of case 7 of SCOPE 12.1, and one that is as much darker; one slice of zeros is lent for a* and for b*. Black and
+ * white, as X, Y, Z, have the same mean. */
+static void sorts(void)
+{
+    static const double lightness[] = {50, 49, 51}, zeros[] = {0, 0, 0};
+    static const double x[] = {94.811, 0, 400}, y[] = {100, 0, 0}, z[] = {107.304, 0, 0};
+    const double one = 963487 / 1048576.0, sorted[] = {0, one, one, -1};
+    double de[] = {-1, -1, -1, -1}, kept[] = {-1, -1, -1, -1};
+    shade_sorted mean = {0, 0, 50, 0, 0, 1, 3}, cone = {SHADE_REFUSED_OUT_OF_RANGE, 2, 0, 0, 0, 0, 0};
+    shade_sorted count = {SHADE_REFUSED_COUNT, 0, 0, 0, 0, 0, 0}, s;
+
+    s = shade_sort_xyz(SHADE_D65_10, 1000, 1000, x, 3, y, 3, z, 3, de, 4);
+    same("sort with a cone out of range", is_sorted(s, cone, de, kept));
+    s = shade_sort_lab(SHADE_D65_10, 1000, 1000, lightness, 1, zeros, 1, zeros, 1, de, 4);
+    same("sort of one cone", is_sorted(s, count, de, kept));
+    s = shade_sort_lab(SHADE_D65_10, 1000, 1000, lightness, 3, zeros, 3, zeros, 3, de, 4);
+    same("sort", is_sorted(s, mean, de, sorted));
+    s = shade_sort_xyz(SHADE_D65_10, 1000, 1000, x, 2, y, 2, z, 2, de, 2);
+    same("sort of white and black", s.number == 0 && s.lightness == 50 && s.a == 0 && s.b == 0);
+    same("white and black are as far", s.farthest == 0 && s.cones == 2 && de[0] > 40 && de[0] == de[1]);
+    same("a result past the count", de[2] == one);
+}
+
 static void version(void)
 {
     char text[16];
     snprintf(text, sizeof text, "%d.%d", SHADE_VERSION_MAJOR, SHADE_VERSION_MINOR);
     same("the library's version", shade_version() == SHADE_VERSION);
     same("the version as a text", strcmp(text, SHADE_VERSION_STRING) == 0);
-    same("words of a number that is none", strcmp(shade_refusal_text(11), "unknown number") == 0);
+    same("words of a number that is none", strcmp(shade_refusal_text(12), "unknown number") == 0);
 }
 
 int main(void)
@@ -122,8 +157,9 @@ int main(void)
         differences++;
     expect("judge", judge(station, 51), 0);
     expect("judge out of range", judge(station, 121), SHADE_REFUSED_OUT_OF_RANGE);
+    sorts();
     lengths();
     version();
-    printf("whole: 10 calls, lengths, words, version: %d differences\n", differences);
+    printf("whole: 14 calls, lengths, words, version: %d differences\n", differences);
     return differences != 0;
 }
