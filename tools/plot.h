@@ -1,5 +1,5 @@
-/* What the two pictures of docs/MANUAL.md share: the plane, the station, and the page. No name, verdict or boundary is
- * worked out here: each is read off a report. */
+/* What the pictures of docs/MANUAL.md share: the plane, the station, and the page. No name, verdict or boundary is worked
+ * out here: each is read off a report. */
 #include <stdio.h>
 #include <stdlib.h>
 #include <string.h>
@@ -29,13 +29,14 @@ static Point direction(int degrees)
     return way;
 }
 
-static Point on_circle(double radius, int degrees)
+/* inline, since not every picture has circles about grey */
+static inline Point on_circle(double radius, int degrees)
 {
     return along((Point){0, 0}, radius, direction(degrees));
 }
 
 static uint8_t station[SHADE_STATION_BYTES];
-static const double LIGHTNESS = 45;
+static double lightness = 45; /* of the plane that is drawn */
 
 static void stop_if_refused(uint32_t number)
 {
@@ -45,10 +46,10 @@ static void stop_if_refused(uint32_t number)
     exit(1);
 }
 
-/* CMC(1:1), tolerance 1 */
-static void load(Point reference)
+/* CMC(l:1), l in thousandths; tolerance 1 */
+static void load(uint32_t l, Point reference)
 {
-    stop_if_refused(shade_load_lab(station, sizeof station, SHADE_CMC, SHADE_D65_10, 1000, 1000, 1000, LIGHTNESS,
+    stop_if_refused(shade_load_lab(station, sizeof station, SHADE_CMC, SHADE_D65_10, l, 1000, 1000, lightness,
                                    reference.a, reference.b));
 }
 
@@ -58,7 +59,7 @@ static const char *answer(const char *key, Point test)
     static char report[SHADE_REPORT_BYTES + 1];
     memset(report, 0, sizeof report);
     stop_if_refused(
-        shade_judge_lab(station, sizeof station, LIGHTNESS, test.a, test.b, (uint8_t *)report, SHADE_REPORT_BYTES, 0));
+        shade_judge_lab(station, sizeof station, lightness, test.a, test.b, (uint8_t *)report, SHADE_REPORT_BYTES, 0));
     char *line = strstr(report, key);
     line[strlen(key) + strcspn(line + strlen(key), "\n")] = 0;
     return line + strlen(key);

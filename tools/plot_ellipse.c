@@ -1,42 +1,12 @@
 /* Draws docs/ellipse.svg: the verdicts around a standard. tools/plot_manual builds it and runs it.
  *
  * Usage: plot_ellipse >docs/ellipse.svg */
-#include "plot.h"
+#include "plot_panel.h"
 
-static char verdict(Point test)
-{
-    return *answer("\nverdict=", test);
-}
-
-static double de(Point test)
-{
-    return strtod(answer("\nDE=", test), NULL);
-}
-
-enum { CELL = 2, SIDE = 380, TOP = 54, STEPS = 6, MAGNIFIED = 200 };
+enum { CELL = 2, MAGNIFIED = 200 };
 
 /* examples/training */
 static const Point STANDARD = {30, 12}, MORE_CHROMA = {32.5, 13}, YELLOWER = {29.5, 13.18};
-
-/* A square part of the a*b* plane around a colour, drawn from the page's x and TOP on: as many steps wide and high as
- * STEPS, with a figure of so many decimals at each. */
-typedef struct {
-    Point centre;
-    double x, step;
-    int decimals;
-} Panel;
-
-/* How many points of the page one unit of a* or b* takes. */
-static double scale(Panel panel)
-{
-    return SIDE / (STEPS * panel.step);
-}
-
-static Point placed(Panel panel, Point colour)
-{
-    return (Point){panel.x + SIDE / 2 + scale(panel) * (colour.a - panel.centre.a),
-                   TOP + SIDE / 2 - scale(panel) * (colour.b - panel.centre.b)};
-}
 
 /* One judgement in the middle of each cell; cells of one verdict side by side are one bar. */
 static void raster(Panel panel)
@@ -61,29 +31,7 @@ static void raster(Panel panel)
             }
         printf("\"/>\n");
     }
-    printf("<rect x=\"%.0f\" y=\"%d\" width=\"%d\" height=\"%d\" fill=\"none\" stroke=\"#444\"/>\n", panel.x, TOP, SIDE,
-           SIDE);
-}
-
-/* How far one can go from the standard that way before the verdict is no longer pass, or the printed DE reaches a
- * figure. */
-static double reach(Point way, double figure)
-{
-    double low = 0, high = 4;
-    for (int halving = 0; halving < 40; halving++) {
-        double middle = (low + high) / 2;
-        Point test = along(STANDARD, middle, way);
-        if (figure > 0 ? de(test) < figure : verdict(test) == 'p')
-            low = middle;
-        else
-            high = middle;
-    }
-    return high;
-}
-
-static void dot(Point at)
-{
-    printf("<circle cx=\"%.1f\" cy=\"%.1f\" r=\"4\"/>\n", at.a, at.b);
+    frame(panel);
 }
 
 /* The report's line on DE. It lasts until the next call. */
@@ -115,28 +63,6 @@ static void region(Panel panel, Point colour)
     printf("</g>\n");
 }
 
-/* The names of the axes stand between two figures, so that they need no room of their own. */
-static void axes(Panel panel)
-{
-    char text[16];
-    for (int step = -STEPS / 2; step <= STEPS / 2; step++) {
-        Point colour = along(panel.centre, step * panel.step, (Point){1, 1}), at = placed(panel, colour);
-        printf("<path d=\"M%.1f %dv5M%.1f %.1fh-5\" stroke=\"#444\"/>\n", at.a, TOP + SIDE, panel.x, at.b);
-        snprintf(text, sizeof text, "%.*f", panel.decimals, colour.a);
-        words(at.a, TOP + SIDE + 19, "middle", "#000", text);
-        snprintf(text, sizeof text, "%.*f", panel.decimals, colour.b);
-        words(panel.x - 8, at.b + 4, "end", "#000", text);
-    }
-    words(panel.x + SIDE / 2, TOP + SIDE + 38, "middle", "#000", "a*");
-    words(panel.x - 10, TOP + SIDE * 7 / 12 + 4, "end", "#000", "b*");
-}
-
-static void title(Panel panel, const char *first, const char *second)
-{
-    words(panel.x, TOP - 30, "start", "#000", first);
-    words(panel.x, TOP - 12, "start", "#000", second);
-}
-
 /* Equal hue and equal chroma: the ray and the circle through the standard. */
 static void equals(Panel panel, double chroma, Point more)
 {
@@ -150,23 +76,6 @@ static void equals(Panel panel, double chroma, Point more)
     words(from.a - 6, from.b + 18, "start", "#444", "equal hue");
     to = placed(panel, on_circle(chroma, 17));
     words(to.a + 6, to.b + 4, "start", "#444", "equal chroma");
-}
-
-/* How far a pass goes, at every third degree. */
-static void outline(Panel panel)
-{
-    printf("<path d=\"");
-    for (int degrees = 0; degrees < 360; degrees += 3) {
-        Point way = direction(degrees), at = placed(panel, along(STANDARD, reach(way, 0), way));
-        printf("%s%.1f %.1f", degrees == 0 ? "M" : "L", at.a, at.b);
-    }
-    printf("z\" fill=\"none\" stroke=\"#000\" stroke-width=\"1.5\"/>\n");
-}
-
-/* The multiple of a step that is nearest to a value above 0. */
-static double to_step(double value, double step)
-{
-    return step * (long)(value / step + 0.5);
 }
 
 /* A ring around a place in one panel, and a line from it to the panel that shows it. The line ends halfway between two
@@ -183,7 +92,7 @@ static void magnified(Panel whole, Point more)
 {
     static const Point names[] = {{-2.4, 2}, {-0.8, 2}, {1.2, 2}}; /* in steps: one in each region */
     const double step = whole.step / MAGNIFIED;
-    Point end = along(STANDARD, reach(more, 1), more);
+    Point end = along(STANDARD, reach(STANDARD, more, 1), more);
     Panel part = {{to_step(end.a, step), to_step(end.b, step)}, 550, step, 3};
     char first[64], second[64];
     snprintf(first, sizeof first, "In the middle of the ring: %.2f wide, %.2f high,", STEPS * step, STEPS * step);
@@ -193,7 +102,7 @@ static void magnified(Panel whole, Point more)
     raster(part);
     axes(part);
     for (int thousandths = 996; thousandths <= 1004; thousandths += 4) {
-        Point test = along(STANDARD, reach(more, thousandths / 1e3), more), at = placed(part, test);
+        Point test = along(STANDARD, reach(STANDARD, more, thousandths / 1e3), more), at = placed(part, test);
         dot(at);
         words(at.a, at.b + 20, "middle", "#000", de_line(test));
     }
@@ -206,14 +115,14 @@ int main(void)
     const double chroma = 32.310988842807021; /* the root of 30² + 12² */
     const Point more = {STANDARD.a / chroma, STANDARD.b / chroma};
     Panel whole = {STANDARD, 60, 1, 0};
-    load(STANDARD);
+    load(1000, STANDARD);
 
     open_page(970, 490);
     title(whole, "Around the standard L*, a*, b* = 45, 30, 12,", "at equal L*: CMC(1:1), tolerance 1");
     raster(whole);
     axes(whole);
     equals(whole, chroma, more);
-    outline(whole);
+    outline(whole, STANDARD, 0);
     Point at = placed(whole, STANDARD);
     dot(at);
     words(at.a + 16, at.b + 18, "start", "#000", "standard");

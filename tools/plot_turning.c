@@ -14,7 +14,7 @@ static Point on_page(double radius, int degrees)
 /* The hue of a test specimen turned from a reference that stands at so many degrees. */
 static void hue(char name[32], int degrees, int turn)
 {
-    load(on_circle(40, degrees));
+    load(1000, on_circle(40, degrees));
     strcpy(name, answer("\nhue=", on_circle(40, degrees + turn)));
 }
 

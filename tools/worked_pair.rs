@@ -1,5 +1,5 @@
-//! Prints the two tables of docs/MANUAL.md, part 3: a CMC pair with every figure of the step sheet, and X, Y, Z to L*,
-//! a*, b*. The figures are those of the independent sheet of tests/paper.
+//! Prints the tables of docs/MANUAL.md, part 3: a CMC pair with every figure of the step sheet; X, Y, Z to L*, a*, b*;
+//! a delivery, its mean and each cone against it. The figures are those of the independent sheet of tests/paper.
 //!
 //! Usage: tools/worked_pair    (which builds it)
 
@@ -7,10 +7,12 @@
 mod paper;
 
 use paper::conversion::{above_cut, f, grid_colour, Colour, WHITES};
+use paper::delivery::Sort;
 use paper::readings::GRID_ONE;
 use paper::settings::Formula;
-use paper::sheet::{Sheet, PLACES};
+use paper::sheet::{semi_axes, sheet, Sheet, PLACES};
 use paper::standard::Standard;
+use paper::ticket::Space;
 use paper::{cmc, report};
 
 /// In quarters of one: exact in decimals and on the grid.
@@ -23,6 +25,10 @@ const TOLERANCE: u64 = 1_000;
 
 /// Document 000, Table 2, the reference of pair 9, in millionths: X and Y lie below the cut, Z above it. White D65/10.
 const XYZ: [u128; 3] = [704_000, 750_000, 972_000];
+
+/// L*, a* and b* of the four cones of part 2. The sum of their b* in units is even, but no multiple of 4: the mean is a
+/// tie. The sums of L* and a* lie on either side of a multiple.
+const CONES: [[f64; 4]; 3] = [[24.0, 24.4, 23.6, 24.8], [3.1, 2.7, 3.6, 3.0], [-18.2, -18.1, -18.8, -17.5]];
 
 const ONE: i128 = GRID_ONE as i128;
 
@@ -184,8 +190,35 @@ fn conversion() {
     println!();
 }
 
+fn delivery() {
+    let readings = CONES.map(|of_cones| of_cones.map(f64::to_bits).to_vec());
+    let sort = Sort { white: 1, l: L as u32, c: C as u32, space: Space::Lab, readings, results: vec![0; 4] };
+    let figures = sort.sorted().expect("every cone is in range");
+    let line = |name: &str, cells: [String; 3]| println!("| {name} | {} |", cells.join(" | "));
+    println!("\n| in units | L\\* | a\\* | b\\* |\n|---|---|---|---|");
+    for (cone, colour) in figures.colours.iter().enumerate() {
+        line(&format!("cone {cone}"), colour.map(|units| units.to_string()));
+    }
+    let sums = [0, 1, 2].map(|place: usize| figures.colours.iter().map(|colour| colour[place]).sum::<i64>());
+    line("sum", sums.map(|sum| sum.to_string()));
+    line("a quarter of it", sums.map(|sum| (sum as f64 / 4.0).to_string()));
+    line("mean", figures.mean.map(|units| units.to_string()));
+    line("mean, as a decimal", figures.mean.map(|units| rounded(units.into(), PLACES)));
+
+    let axes = semi_axes(PLACES, Formula::Cmc, figures.mean);
+    println!("\nSL, SC, SH of the mean: {}, {}, {}\n", axes.sl, axes.sc, axes.sh);
+    println!("| cone | ΔL | ΔC | ΔH | DL | DC | DH | DE | DE, as a decimal |\n|---|---|---|---|---|---|---|---|---|");
+    for (cone, &colour) in figures.colours.iter().enumerate() {
+        let s = sheet(PLACES, Formula::Cmc, [L.into(), C.into()], figures.mean, colour);
+        let units = [s.delta_l, s.delta_c, s.delta_h, s.dl, s.dc, s.dh, s.de].map(|units| units.to_string());
+        println!("| {cone} | {} | {} |", units.join(" | "), rounded(s.de, PLACES));
+    }
+    println!("\nthe farthest: {}", figures.farthest);
+}
+
 fn main() {
     paper::check();
     pair();
     conversion();
+    delivery();
 }
