@@ -4,6 +4,9 @@
 
 static uint8_t xyz_stations[PAIRS][SHADE_STATION_BYTES], lab_stations[PAIRS][SHADE_STATION_BYTES];
 
+/* All test specimens as the cones of one delivery: x, y, z of each, or L*, a*, b*. */
+static double xyz_cones[3][PAIRS], lab_cones[3][PAIRS], de[PAIRS];
+
 static int load_xyz(int i)
 {
     struct triple r = references[i].xyz;
@@ -18,8 +21,17 @@ static int load_lab(int i)
                                TOLERANCE_THOUSANDTHS, r.x, r.y, r.z);
 }
 
+static void put_cone(double cones[3][PAIRS], int i, struct triple t)
+{
+    cones[0][i] = t.x;
+    cones[1][i] = t.y;
+    cones[2][i] = t.z;
+}
+
 static int load(int i)
 {
+    put_cone(xyz_cones, i, tests[i].xyz);
+    put_cone(lab_cones, i, tests[i].lab);
     return load_xyz(i) | load_lab(i);
 }
 
@@ -45,9 +57,27 @@ static int ticket_lab(int i)
     return (int)shade_ticket((const uint8_t *)lab_tickets[i], lab_lengths[i], (uint8_t *)room, ROOM, 0);
 }
 
+/* One call for all pairs, at the first: the mean over the pairs is what a cone costs. */
+static int sort_xyz(int i)
+{
+    return i == 0 ? (int)shade_sort_xyz(WHITE, L_THOUSANDTHS, C_THOUSANDTHS, xyz_cones[0], PAIRS, xyz_cones[1], PAIRS,
+                                        xyz_cones[2], PAIRS, de, PAIRS)
+                        .number
+                  : 0;
+}
+
+static int sort_lab(int i)
+{
+    return i == 0 ? (int)shade_sort_lab(WHITE, L_THOUSANDTHS, C_THOUSANDTHS, lab_cones[0], PAIRS, lab_cones[1], PAIRS,
+                                        lab_cones[2], PAIRS, de, PAIRS)
+                        .number
+                  : 0;
+}
+
 static const struct row rows[] = {
     {"load_xyz", load_xyz},   {"load_lab", load_lab},     {"judge_xyz", judge_xyz}, {"judge_lab", judge_lab},
-    {"ticket_xyz", ticket_xyz}, {"ticket_lab", ticket_lab}, {0, 0},
+    {"ticket_xyz", ticket_xyz}, {"ticket_lab", ticket_lab}, {"sort_xyz", sort_xyz},   {"sort_lab", sort_lab},
+    {0, 0},
 };
 
 int main(int count, char **words)
