@@ -1,9 +1,10 @@
 -- docs/SCOPE.md 8.2, "each cone in turn": the values of all elements of a list, or the first that is refused, with its
 -- number and its index. Over any element and any value: what is made of a delivery is a definition over the list of
--- its values. `InTurn/Exactly.antt` says which answer it is, `InTurn/Laws.antt` has what a loop goes by.
--- Assumes nothing.
+-- its values. `InTurn/Cases.antt` has the paper's own words, `InTurn/Exactly.antt` says which answer it is,
+-- `InTurn/Laws.antt` has what a loop goes by. Assumes nothing.
 use mathlib.Core.List.{List, [], _∷_, _++_}
 use Prim.Native.Nat.{ℕ, suc}
+pub mod Cases
 pub mod Laws
 pub mod Exactly
 

@@ -8,6 +8,8 @@ use Prim.Native.Nat.{ℕ, zero, suc, _+_, _<_, suc-le-suc}
 use native.Mathlib.Nat.{le-of-suc-le-suc, not-suc-le-zero, zero-lt-suc, zero-add, add-zero, add-suc, suc-add}
 use native.Mathlib.Omega.{arith}
 use lib.ListN.{length, getD}
+use Rattle.rounding.specs.Every.{Every}
+use Rattle.rounding.specs.Every as E
 use Rattle.cones.specs.InTurn.{Turn, taken, denied, whole, refused, either, after, inTurnFrom, inTurn}
 
 pub data IsTaken {W : Type 0} : Turn W → Type 0 where
@@ -112,6 +114,23 @@ module _ {P W : Type 0} (turn : P → Turn W) where
     -- ALL OF THEM, EXACTLY THEN
     pub whole-exactly : (ps : List P) (vs : List W) → inTurn turn ps ≡ whole vs ↔ AllTaken ps vs
     whole-exactly ps vs = (whole-only-if ps vs, whole-if 0)
+
+  -- the values are determined
+  pub taken-one : {ps : List P} {us vs : List W} → AllTaken ps us → AllTaken ps vs → us ≡ vs
+  taken-one none none = refl
+  taken-one (more {ps = ps} {vs = us} e h) (more {vs = vs} f g) =
+      let rest = taken-one h g in
+      cc
+
+  -- elements that are all the same have one value
+  pub taken-same :
+      {q : P} {v : W} → turn q ≡ taken v → {ps : List P} {vs : List W} → AllTaken ps vs →
+      Every (λ (p : P). p ≡ q) ps → Every (λ (u : W). u ≡ v) vs
+  taken-same e none E.none = E.none
+  taken-same {v = v} e (more {v = u} h hs) (E.more p ps) =
+      let f = ap turn p in
+      let same : u ≡ v = cc in
+      E.more same (taken-same e hs ps)
 
   -- IN ANOTHER ORDER all are taken too, with the same values in that order
   pub taken-perm :
