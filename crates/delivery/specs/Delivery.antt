@@ -1,5 +1,5 @@
--- docs/SCOPE.md 13.2, 13.3: the mean colour of a delivery, and each cone's DE from it. `Delivery/Laws.antt` has what
--- callers go by, `Delivery/Facts.antt` what a dyer may ask. Assumes nothing.
+-- docs/SCOPE.md 13.2, 13.3: the mean colour of a delivery, and each cone's DE from it. `Delivery/Cases.antt` has some
+-- figures, `Delivery/Laws.antt` what callers go by, `Delivery/Facts.antt` what a dyer may ask. Assumes nothing.
 use mathlib.Core.List.{List, map}
 use Prim.Native.Nat.{ℕ}
 use lib.IntN.{ℤ}
@@ -9,6 +9,7 @@ use Rattle.reading.specs.declared.grid.Grid.{Grid}
 use Rattle.colour.specs.declared.conversion.GridColour.{GridColour}
 use Rattle.sheet.specs.Sheet.{sheet}
 use Rattle.sheet.specs.declared.formula.Formula.the-variants.{CMC}
+pub mod Cases
 pub mod Laws
 pub mod Facts
 

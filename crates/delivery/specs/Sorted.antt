@@ -29,6 +29,7 @@ use Rattle.delivery.specs.Written.{written}
 pub mod Laws
 pub mod Ways
 pub mod Exact
+pub mod Facts
 
 -- ---- refusals: 11, 2, 3 for l, 3 for c, then each cone in turn
 

@@ -61,6 +61,10 @@ module _ {cs ds : List GridColour} (p : List·Permᴰ cs ds) where
 
 -- ---- CONES OF ONE COLOUR
 
+pub no-difference-of-one : (l c : ℕ) (one : GridColour) → differenceFrom l c one one ≡ 0
+unfolding differenceFrom
+no-difference-of-one l c one = ap (λ (d : Differences). d .DE) (sheet-self 20 CMC l c one)
+
 module _
     (one : GridColour) {cs : List GridColour} (some : 0 < length cs) (same : Every (λ (c : GridColour). c ≡ one) cs)
   where
@@ -79,11 +83,9 @@ module _
 
     -- and a DE of 0 each
     pub no-difference : (l c : ℕ) → Every (λ (d : ℕ). d ≡ 0) (differences l c cs)
-    unfolding differenceFrom
     no-difference l c =
         rw mean-of-one-colour
-        (every-map (differenceFrom l c one)
-        (λ t e. ap (differenceFrom l c one) e ∙ ap (λ (d : Differences). d .DE) (sheet-self 20 CMC l c one)) same)
+        (every-map (differenceFrom l c one) (λ t e. ap (differenceFrom l c one) e ∙ no-difference-of-one l c one) same)
 
     -- so that none is farther than cone 0
     pub farthest-of-one-colour : (l c : ℕ) → farthest (differences l c cs) .at ≡ 0
@@ -98,6 +100,5 @@ module _
         go : (at : ℕ) → farthest all .at ≡ at → at ≡ 0
         go zero e = refl
         go (suc at) e =
-            absurd
-            (omega
-            (arith, first .first 0 (rw e (zero-lt-suc at)), first .is, every-at (no-difference l c) _ 0 (first .within)))
+            let none = every-at (no-difference l c) _ 0 (first .within) in
+            absurd (omega (arith, first .first 0 (rw e (zero-lt-suc at)), first .is, none))

@@ -4,7 +4,7 @@ use mathlib.Core.Path.{_≡_, refl, sym, ap, _∙_}
 use mathlib.Core.Bool.{Bool, true, false, not, cond, _&&_, true≢false}
 use mathlib.Core.List.{List, [], _∷_}
 use Prim.Native.Nat.{ℕ}
-use borrow.Author.Tests.{leb-true}
+use borrow.Author.Tests.{leb-true, le-leb, eq-eqb}
 use lib.Dec.{leb, eqb}
 use lib.Ieee.{Float}
 use lib.ListN.{length}
@@ -16,7 +16,7 @@ use Rattle.colour.specs.declared.white.Numbered.{Numbered}
 use Rattle.colour.specs.declared.white.Numbered.the-variants as W
 use Rattle.colour.specs.declared.white.White.{White}
 use Rattle.sheet.specs.Settings.{within, isFactor}
-use Rattle.sheet.specs.Settings.Laws.{within-true, factor-of}
+use Rattle.sheet.specs.Settings.Laws.{within-true, within-in, factor-of, of-factor}
 use Rattle.cones.specs.Zip.{isEven, even-of-test}
 use Rattle.cones.specs.InTurn.{Turns, whole, refused, numberOf, indexOf}
 use Rattle.cones.specs.Cones.{readingsOf, conesIn}
@@ -47,6 +47,22 @@ call-in {l} {c} xs ys zs de shaped factors =
       lightness = factor-of p;
       chroma = factor-of q;
     }
+
+-- and each of the tests passes then
+module _ {l c : ℕ} {xs ys zs de : List Float} (call : CallIn l c xs ys zs de) where
+  shaped-of : isShaped xs ys zs (length de) ≡ true
+  unfolding isShaped isEven
+  shaped-of =
+      rw (
+        within-in 2 256 (length xs) (call .some) (call .few),
+        le-leb _ _ (call .enough),
+        eq-eqb _ _ (call .even .ys-length),
+        eq-eqb _ _ (call .even .zs-length),
+      )
+
+  factors-of : areFactors l c ≡ true
+  unfolding areFactors
+  factors-of = rw (of-factor (call .lightness), of-factor (call .chroma))
 
 -- ---- each way before the cones, in the one order
 
@@ -79,6 +95,13 @@ module _ (white l c : ℕ) (rs : List Reading) where
       in-turn f =
           let (p, q) = both-true (isFactor l) (isFactor c) f in
           rw (← ew, h, p, q)
+
+-- so of every call that is in order
+pub in-turn-of :
+    {l c : ℕ} {xs ys zs de : List Float} (white : ℕ) (rs : List Reading) {w : White} → CallIn l c xs ys zs de →
+    whiteNumbered white ≡ W.Is w → delivered (isShaped xs ys zs (length de)) white l c rs ≡ conesIn w rs
+in-turn-of {l} {c} white rs call e =
+    ap (λ (b : Bool). delivered b white l c rs) (shaped-of call) ∙ in-turn white l c rs (sym e) refl (factors-of call)
 
 -- what is refused before the cones, or the cones themselves
 pub data Comes (shaped : Bool) (white l c : ℕ) (rs : List Reading) : Turns GridColour → Type 0 where

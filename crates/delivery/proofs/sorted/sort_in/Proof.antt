@@ -47,8 +47,8 @@ accepted c =
     let told = at-mean .before in
     let a = start (at-sums told) .args in
     gives-whole (a .kind) (a .white) (start (at-sums told) .pre) (at-sums told .sum-of .ensures)
-    (told .before .sums .given .1) (at-mean .mean-colour .ensures) (at-write .write-differences .ensures) (c .before .before .value .ensures)
-    (c .before .value2 .ensures) (c .value3 .ensures)
+    (told .before .sums .given .1) (at-mean .mean-colour .ensures) (at-write .write-differences .ensures)
+    (c .before .before .value .ensures) (c .before .value2 .ensures) (c .value3 .ensures)
 
 few : tie.Need-cast-t23
 few c =
