@@ -284,6 +284,18 @@ typedef struct {
     uint32_t cones;         /* how many */
 } shade_sorted;
 
+/* Its fields lie where the library puts them: a compiler that would have one elsewhere refuses this header. */
+#define SHADE_LIES_AT(type, field, place) \
+    typedef char type##_##field##_lies_at[offsetof(type, field) == (place) ? 1 : -1]
+SHADE_LIES_AT(shade_sorted, number, 0);
+SHADE_LIES_AT(shade_sorted, cone, 4);
+SHADE_LIES_AT(shade_sorted, lightness, 8);
+SHADE_LIES_AT(shade_sorted, a, 16);
+SHADE_LIES_AT(shade_sorted, b, 24);
+SHADE_LIES_AT(shade_sorted, farthest, 32);
+SHADE_LIES_AT(shade_sorted, cones, 36);
+typedef char shade_sorted_has_40_bytes[sizeof(shade_sorted) == 40 ? 1 : -1];
+
 shade_sorted shade_sort_xyz(uint32_t white, uint32_t l, uint32_t c, const double *x, size_t x_count, const double *y,
                             size_t y_count, const double *z, size_t z_count, double *de, size_t de_count);
 shade_sorted shade_sort_lab(uint32_t white, uint32_t l, uint32_t c, const double *lightness, size_t lightness_count,

@@ -68,6 +68,10 @@ IS(SHADE_REPORT_BYTES, 161);
 IS(SHADE_REPORT_LINES, 12);
 IS(SHADE_TICKET_BYTES, 4096);
 
+/* SCOPE 13.1 */
+IS(SHADE_CONES_LEAST, 2);
+IS(SHADE_CONES_MOST, 256);
+
 /* SCOPE 13.4: what a sort hands back, in this order and without padding, each field of this type. */
 #define LIES(field, place) extern char field##_lies_at_##place[offsetof(shade_sorted, field) == (place) ? 1 : -1]
 LIES(number, 0);
