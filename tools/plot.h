@@ -1,5 +1,5 @@
-/* What the pictures of docs/MANUAL.md share: the plane, the station, and the page. No name, verdict or boundary is worked
- * out here: each is read off a report. */
+/* What the pictures of docs/MANUAL.md share: the plane, the station, and the page. No name, verdict or boundary is
+ * worked out here: each is read off a report. */
 #include <stdio.h>
 #include <stdlib.h>
 #include <string.h>

@@ -29,7 +29,8 @@ static void cross(Point at)
 
 static void ring(Point at)
 {
-    printf("<circle cx=\"%.1f\" cy=\"%.1f\" r=\"8\" fill=\"none\" stroke=\"#000\" stroke-width=\"1.5\"/>\n", at.a, at.b);
+    printf("<circle cx=\"%.1f\" cy=\"%.1f\" r=\"8\" fill=\"none\" stroke=\"#000\" stroke-width=\"1.5\"/>\n", at.a,
+           at.b);
 }
 
 /* A dot, and the cone's number on the side that is turned away from the mean. */

@@ -1,5 +1,5 @@
-/* What the pictures of a part of the a*b* plane share: a square panel, its axes, and the line at which a DE or a verdict
- * is reached. */
+/* What the pictures of a part of the a*b* plane share: a square panel, its axes, and the line at which a DE or a
+ * verdict is reached. */
 #include "plot.h"
 
 enum { SIDE = 380, TOP = 54, STEPS = 6 };
