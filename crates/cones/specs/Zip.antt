@@ -5,7 +5,7 @@ use mathlib.Core.List.{List, [], _∷_}
 use Prim.Native.Nat.{ℕ, zero, suc, _≤_, _<_}
 use native.Mathlib.Nat.{le-of-suc-le-suc, not-suc-le-zero}
 use native.Mathlib.Omega.{arith}
-use borrow.Author.Tests.{eqb-true}
+use borrow.Author.Tests.{eqb-true, eq-eqb}
 use lib.Dec.{eqb}
 use lib.ListN.{length, getD}
 use Rattle.colour.specs.Conversion.Laws.{both-true}
@@ -24,6 +24,10 @@ unfolding isEven
 even-of-test xs ys zs h =
     let (p, q) = both-true (eqb (length ys) (length xs)) (eqb (length zs) (length xs)) h in
     record { ys-length = eqb-true _ _ p; zs-length = eqb-true _ _ q }
+
+pub test-of-even : {A : Type 0} (xs ys zs : List A) → Even xs ys zs → isEven xs ys zs ≡ true
+unfolding isEven
+test-of-even xs ys zs h = rw (eq-eqb _ _ (h .ys-length), eq-eqb _ _ (h .zs-length))
 
 -- and at most m
 pub record Counted {A : Type 0} (m : ℕ) (xs ys zs : List A) : Type 0 where

@@ -37,6 +37,12 @@ pub mod Facts
 unfoldable pub isShaped : (xs ys zs : List Float) (room : ℕ) → Bool
 isShaped xs ys zs room = within 2 256 (length xs) && leb (length xs) room && isEven xs ys zs
 
+pub record Shaped (xs ys zs : List Float) (room : ℕ) : Type 0 where
+  pub some : 2 ≤ length xs
+  pub few : length xs ≤ 256
+  pub enough : length xs ≤ room
+  pub even : Even xs ys zs
+
 unfoldable pub areFactors : (l c : ℕ) → Bool
 areFactors l c = isFactor l && isFactor c
 
@@ -111,10 +117,7 @@ module _ (k : Kind) (white l c : ℕ) (xs ys zs : List Float) where
 
 -- what was tested before the cones
 pub record CallIn (l c : ℕ) (xs ys zs de : List Float) : Type 0 where
-  pub some : 2 ≤ length xs
-  pub few : length xs ≤ 256
-  pub enough : length xs ≤ length de
-  pub even : Even xs ys zs
+  pub shape : Shaped xs ys zs (length de)
   pub lightness : Factor l
   pub chroma : Factor c
 

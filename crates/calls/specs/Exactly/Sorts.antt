@@ -1,7 +1,7 @@
 -- The number of a sort is that of the first of its rules that holds, and so its rows are true; and which cone it names.
 -- Assumes nothing.
 use mathlib.Core.Path.{_≡_, refl, sym, ap, subst, _∙_}
-use mathlib.Core.Bool.{Bool, true, false, _&&_, true≢false}
+use mathlib.Core.Bool.{Bool, true, false, true≢false}
 use mathlib.Core.List.{List, [], _∷_}
 use mathlib.Core.Logic.{_↔_, _⊎_, inl, inr, ⊎-elim}
 use Prim.Native.Nat.{ℕ}
@@ -11,7 +11,6 @@ use borrow.Author.Tests.{leb-true, leb-false, eqb-true, eqb-false}
 use lib.Dec.{leb, eqb}
 use lib.Ieee.{Float}
 use lib.ListN.{length}
-use Rattle.colour.specs.Conversion.Laws.{both-true}
 use Rattle.colour.specs.Placed.Exactly.{NotFinite}
 use Rattle.colour.specs.White.{whiteNumbered}
 use Rattle.colour.specs.declared.conversion.GridColour.{GridColour}
@@ -20,13 +19,14 @@ use Rattle.colour.specs.declared.white.White.{White}
 use Rattle.colour.specs.declared.white.Numbered.{Numbered}
 use Rattle.colour.specs.declared.white.Numbered.the-variants as W
 use Rattle.sheet.specs.Settings.{within, isFactor}
-use Rattle.cones.specs.Zip.{isEven}
+use Rattle.sheet.specs.Settings.Laws.{within-true, within-in}
 use Rattle.cones.specs.InTurn.{Turns, whole, refused, numberOf, indexOf}
 use Rattle.cones.specs.Cones.{conesIn}
 use Rattle.cones.specs.Cones.Exactly.{FirstBy, OutAlone, BeyondAlone, cone-rows, cone-refused-by}
 use Rattle.station.specs.Record.Exactly.{NoWhite, FactorsOut}
 use Rattle.station.specs.Record.Exactly.Accepting.{inside-of, outside-of, Whites, white-none, white-one, whites}
-use Rattle.delivery.specs.Sorted.{isShaped, areFactors, delivered}
+use Rattle.delivery.specs.Sorted.{isShaped, Shaped, areFactors, delivered}
+use Rattle.delivery.specs.Sorted.Laws.{shaped-of-test, test-of-shaped, factors-of-test, test-of-factors}
 use Rattle.delivery.specs.Sorted.Laws.{Comes, wrong-count, no-white, wrong-factor, cones, comes}
 use Rattle.calls.specs.Calls.Numbers.{isOneOf, OneOf}
 use Rattle.calls.specs.Exactly.{WrongCount, of-count, of-room, of-second, of-third, SomeFirst}
@@ -38,38 +38,41 @@ use Rattle.calls.specs.Exactly.Rows.{row, row-zero}
 
 module _ (xs ys zs : List Float) (room : ℕ) where
   of-shape : isShaped xs ys zs room ≡ false → WrongCount xs ys zs room
-  unfolding isShaped isEven
-  of-shape =
+  of-shape e =
       go (within 2 256 (length xs)) refl (leb (length xs) room) refl (eqb (length ys) (length xs)) refl
       (eqb (length zs) (length xs)) refl
     where
+      shaped :
+          within 2 256 (length xs) ≡ true → leb (length xs) room ≡ true → eqb (length ys) (length xs) ≡ true →
+          eqb (length zs) (length xs) ≡ true → isShaped xs ys zs room ≡ true
+      shaped p q r s =
+          let (some, few) = within-true 2 256 (length xs) p in
+          test-of-shaped xs ys zs room
+          (record {
+            some = some;
+            few = few;
+            enough = leb-true _ _ q;
+            even = record { ys-length = eqb-true _ _ r; zs-length = eqb-true _ _ s };
+          })
+
       go :
           (p : Bool) → within 2 256 (length xs) ≡ p → (q : Bool) → leb (length xs) room ≡ q →
           (r : Bool) → eqb (length ys) (length xs) ≡ r → (s : Bool) → eqb (length zs) (length xs) ≡ s →
-          p && q && (r && s) ≡ false → WrongCount xs ys zs room
-      go false hp q hq r hr s hs e = of-count (outside-of 2 256 (length xs) hp)
-      go true hp false hq r hr s hs e = of-room (leb-false _ _ hq)
-      go true hp true hq false hr s hs e = of-second (eqb-false _ _ hr)
-      go true hp true hq true hr false hs e = of-third (eqb-false _ _ hs)
-      go true hp true hq true hr true hs e = let no : _≡_ {A = ℕ} 0 1 = cc in absurd (omega arith)
+          WrongCount xs ys zs room
+      go false hp q hq r hr s hs = of-count (outside-of 2 256 (length xs) hp)
+      go true hp false hq r hr s hs = of-room (leb-false _ _ hq)
+      go true hp true hq false hr s hs = of-second (eqb-false _ _ hr)
+      go true hp true hq true hr false hs = of-third (eqb-false _ _ hs)
+      go true hp true hq true hr true hs = absurd (true≢false (sym (shaped hp hq hr hs) ∙ e))
 
   right-count : isShaped xs ys zs room ≡ true → ¬ (WrongCount xs ys zs room)
-  unfolding isShaped isEven
-  right-count h wrong =
-      let (s, even) =
-      both-true (within 2 256 (length xs) && leb (length xs) room)
-      (eqb (length ys) (length xs) && eqb (length zs) (length xs)) h in
-      let (t, enough) = both-true (within 2 256 (length xs)) (leb (length xs) room) s in
-      let (second, third) = both-true (eqb (length ys) (length xs)) (eqb (length zs) (length xs)) even in
-      go t enough second third wrong
+  right-count h wrong = go (shaped-of-test xs ys zs room h) wrong
     where
-      go :
-          within 2 256 (length xs) ≡ true → leb (length xs) room ≡ true → eqb (length ys) (length xs) ≡ true →
-          eqb (length zs) (length xs) ≡ true → WrongCount xs ys zs room → ⊥
-      go p q r s (of-count o) = inside-of 2 256 (length xs) p o
-      go p q r s (of-room l) = not-le-of-lt l (leb-true _ _ q)
-      go p q r s (of-second f) = f (eqb-true _ _ r)
-      go p q r s (of-third f) = f (eqb-true _ _ s)
+      go : Shaped xs ys zs room → WrongCount xs ys zs room → ⊥
+      go s (of-count o) = inside-of 2 256 (length xs) (within-in 2 256 (length xs) (s .some) (s .few)) o
+      go s (of-room l) = not-le-of-lt l (s .enough)
+      go s (of-second f) = f (s .even .ys-length)
+      go s (of-third f) = f (s .even .zs-length)
 
 -- ---- 2
 
@@ -90,18 +93,16 @@ known-white white {w} e = go (whites white) e
 -- ---- 3
 
 factors-out : (l c : ℕ) → areFactors l c ≡ false → FactorsOut l c
-unfolding areFactors
-factors-out l c = go (isFactor l) refl (isFactor c) refl
+factors-out l c e = go (isFactor l) refl (isFactor c) refl
   where
-    go : (p : Bool) → isFactor l ≡ p → (q : Bool) → isFactor c ≡ q → p && q ≡ false → FactorsOut l c
-    go false hp q hq e = inl (outside-of 500 10000 l hp)
-    go true hp false hq e = inr (outside-of 500 10000 c hq)
-    go true hp true hq e = absurd (true≢false e)
+    go : (p : Bool) → isFactor l ≡ p → (q : Bool) → isFactor c ≡ q → FactorsOut l c
+    go false hp q hq = inl (outside-of 500 10000 l hp)
+    go true hp false hq = inr (outside-of 500 10000 c hq)
+    go true hp true hq = absurd (true≢false (sym (test-of-factors l c hp hq) ∙ e))
 
 factors-in : (l c : ℕ) → areFactors l c ≡ true → ¬ (FactorsOut l c)
-unfolding areFactors
 factors-in l c h out =
-    let (p, q) = both-true (isFactor l) (isFactor c) h in
+    let (p, q) = factors-of-test l c h in
     ⊎-elim (inside-of 500 10000 l p) (inside-of 500 10000 c q) out
 
 -- ---- 5, 6, 8 of the first refused cone

@@ -82,7 +82,7 @@ module _ {k : Kind} {white l c : ℕ} {xs ys zs de : List Float} (d : Delivery k
 
   pub colours-count : length (d .colours) ≡ length xs
   colours-count =
-      taken-length (turnIn (d .in-white)) (d .placed) ∙ readings-length k xs ys zs (d .call .even)
+      taken-length (turnIn (d .in-white)) (d .placed) ∙ readings-length k xs ys zs (d .call .shape .even)
 
   pub colours-on-grid : Every OnGrid (d .colours)
   colours-on-grid = taken-on-grid (d .in-white) (d .placed)
@@ -91,7 +91,7 @@ module _ {k : Kind} {white l c : ℕ} {xs ys zs de : List Float} (d : Delivery k
   cone-on-grid i few = every-at colours-on-grid i noColour (rw colours-count few)
 
   pub mean-in-range : OnGrid mean
-  mean-in-range = mean-on-grid (omega (arith, colours-count, d .call .some)) colours-on-grid
+  mean-in-range = mean-on-grid (omega (arith, colours-count, d .call .shape .some)) colours-on-grid
 
 -- ---- what is handed back of them
 
@@ -131,7 +131,7 @@ module _ {k : Kind} {white l c : ℕ} {xs ys zs de : List Float} (d : Delivery k
       (arith, difference-lt (d .call .lightness) (d .call .chroma) (mean-in-range d) (cone-on-grid d i few)))
 
   far : IsFarthest all (farthest all)
-  far = farthest-is all (rw all-count (omega (arith, d .call .some)))
+  far = farthest-is all (rw all-count (omega (arith, d .call .shape .some)))
 
   far-within : farthest all .at < length xs
   far-within = rw (sym all-count) (far .within)

@@ -73,19 +73,22 @@ module _ (k : Kind) (white l c : ℕ) (xs ys zs de us vs ws room : List Float) w
     reordered : Even us vs ws → length us ≤ length room → Delivery k white l c xs ys zs de →
         Delivery k white l c us vs ws room
     reordered even enough d =
-        let call = d .call in
+        let shape = d .call .shape in
         let same : length xs ≡ length us =
-        sym (readings-length k xs ys zs (call .even)) ∙ length-perm p ∙ readings-length k us vs ws even in
+        sym (readings-length k xs ys zs (shape .even)) ∙ length-perm p ∙ readings-length k us vs ws even in
         let (colours, (placed, q)) = taken-perm (turnIn (d .in-white)) p (d .placed) in
         record {
           call =
               record {
-                some = omega (arith, same, call .some);
-                few = omega (arith, same, call .few);
-                enough = enough;
-                even = even;
-                lightness = call .lightness;
-                chroma = call .chroma;
+                shape =
+                    record {
+                      some = omega (arith, same, shape .some);
+                      few = omega (arith, same, shape .few);
+                      enough = enough;
+                      even = even;
+                    };
+                lightness = d .call .lightness;
+                chroma = d .call .chroma;
               };
           in-white = d .in-white;
           white-is = d .white-is;
@@ -124,13 +127,13 @@ module _ (k : Kind) (white l c : ℕ) (xs ys zs de us vs ws room : List Float) w
             a = h .a .is ∙ ap (λ (m : GridColour). valueOf (m .a .0)) one-mean ∙ sym (g .a .is);
             b = h .b .is ∙ ap (λ (m : GridColour). valueOf (m .b .0)) one-mean ∙ sym (g .b .is);
             count =
-                h .count ∙ sym (readings-length k xs ys zs (d .call .even)) ∙ length-perm p
-                ∙ readings-length k us vs ws (e .call .even) ∙ sym (g .count);
+                h .count ∙ sym (readings-length k xs ys zs (d .call .shape .even)) ∙ length-perm p
+                ∙ readings-length k us vs ws (e .call .shape .even) ∙ sym (g .count);
             entry =
                 λ i j before after same.
-                h .entry i (rw (sym (readings-length k xs ys zs (d .call .even))) before) .is
+                h .entry i (rw (sym (readings-length k xs ys zs (d .call .shape .even))) before) .is
                 ∙ ap (λ (n : ℕ). valueOf (pos n)) (one-DE i j before after same)
-                ∙ sym (g .entry j (rw (sym (readings-length k us vs ws (e .call .even))) after) .is);
+                ∙ sym (g .entry j (rw (sym (readings-length k us vs ws (e .call .shape .even))) after) .is);
           }
 
     module _ {r s : Sorted} {left kept : List Float} (g : Sorts k white l c xs ys zs de r left)
@@ -168,7 +171,7 @@ zero-back = refl
 module _ {k : Kind} {white l c : ℕ} {xs ys zs de : List Float} (d : Delivery k white l c xs ys zs de) {one : Reading}
     (same : Every (λ (r : Reading). r ≡ one) (readingsOf k xs ys zs)) where
   some : 0 < length (readingsOf k xs ys zs)
-  some = rw (readings-length k xs ys zs (d .call .even)) (omega (arith, d .call .some))
+  some = rw (readings-length k xs ys zs (d .call .shape .even)) (omega (arith, d .call .shape .some))
 
   turn-of-one : turnIn (d .in-white) one ≡ taken (cone d 0)
   turn-of-one =
@@ -179,7 +182,7 @@ module _ {k : Kind} {white l c : ℕ} {xs ys zs de : List Float} (d : Delivery k
   one-colour = taken-same (turnIn (d .in-white)) turn-of-one (d .placed) same
 
   mean-is : mean d ≡ cone d 0
-  mean-is = mean-of-one-colour (cone d 0) (rw (colours-count d) (omega (arith, d .call .some))) one-colour
+  mean-is = mean-of-one-colour (cone d 0) (rw (colours-count d) (omega (arith, d .call .shape .some))) one-colour
 
   DE-is : (i : ℕ) → i < length xs → DE d i ≡ 0
   DE-is i few =

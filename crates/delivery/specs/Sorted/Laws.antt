@@ -4,7 +4,7 @@ use mathlib.Core.Path.{_≡_, refl, sym, ap, _∙_}
 use mathlib.Core.Bool.{Bool, true, false, not, cond, _&&_, true≢false}
 use mathlib.Core.List.{List, [], _∷_}
 use Prim.Native.Nat.{ℕ}
-use borrow.Author.Tests.{leb-true, le-leb, eq-eqb}
+use borrow.Author.Tests.{leb-true, le-leb}
 use lib.Dec.{leb, eqb}
 use lib.Ieee.{Float}
 use lib.ListN.{length}
@@ -17,7 +17,7 @@ use Rattle.colour.specs.declared.white.Numbered.the-variants as W
 use Rattle.colour.specs.declared.white.White.{White}
 use Rattle.sheet.specs.Settings.{within, isFactor}
 use Rattle.sheet.specs.Settings.Laws.{within-true, within-in, factor-of, of-factor}
-use Rattle.cones.specs.Zip.{isEven, even-of-test}
+use Rattle.cones.specs.Zip.{isEven, even-of-test, test-of-even}
 use Rattle.cones.specs.InTurn.{Turns, whole, refused, numberOf, indexOf}
 use Rattle.cones.specs.Cones.{readingsOf, conesIn}
 use Rattle.cones.specs.declared.Kind.{Kind}
@@ -25,44 +25,44 @@ use Rattle.standard.specs.Acceptance.{noWhite}
 use Rattle.standard.specs.Refusals.{numberAt, firstOf, refusal}
 use Rattle.standard.specs.Refusals.Laws.{first-zero}
 use Rattle.delivery.specs.declared.sorted.Sorted.{Sorted}
-use Rattle.delivery.specs.Sorted.{isShaped, areFactors, conesNumbered, sortFaults, delivered, refusedWith}
+use Rattle.delivery.specs.Sorted.{isShaped, Shaped, areFactors, conesNumbered, sortFaults, delivered, refusedWith}
 use Rattle.delivery.specs.Sorted.{sortedOf, answerOf, leftIn, Gives, Sorts, CallIn, SortsIn}
 
--- ---- what was tested before the cones
+-- ---- what is tested before the cones: each test passes exactly where its facts hold
+
+module _ (xs ys zs : List Float) (room : ℕ) where
+  pub shaped-of-test : isShaped xs ys zs room ≡ true → Shaped xs ys zs room
+  unfolding isShaped
+  shaped-of-test h =
+      let (s, even) = both-true (within 2 256 (length xs) && leb (length xs) room) (isEven xs ys zs) h in
+      let (t, enough) = both-true (within 2 256 (length xs)) (leb (length xs) room) s in
+      let (some, few) = within-true 2 256 (length xs) t in
+      record { some = some; few = few; enough = leb-true _ _ enough; even = even-of-test xs ys zs even }
+
+  pub test-of-shaped : Shaped xs ys zs room → isShaped xs ys zs room ≡ true
+  unfolding isShaped
+  test-of-shaped h =
+      rw (
+        within-in 2 256 (length xs) (h .some) (h .few),
+        le-leb _ _ (h .enough),
+        test-of-even xs ys zs (h .even),
+      )
+
+module _ (l c : ℕ) where
+  pub factors-of-test : areFactors l c ≡ true → (isFactor l ≡ true) × (isFactor c ≡ true)
+  unfolding areFactors
+  factors-of-test h = both-true (isFactor l) (isFactor c) h
+
+  pub test-of-factors : isFactor l ≡ true → isFactor c ≡ true → areFactors l c ≡ true
+  unfolding areFactors
+  test-of-factors p q = rw (p, q)
 
 pub call-in :
     {l c : ℕ} (xs ys zs de : List Float) → isShaped xs ys zs (length de) ≡ true → areFactors l c ≡ true →
     CallIn l c xs ys zs de
-unfolding isShaped areFactors
 call-in {l} {c} xs ys zs de shaped factors =
-    let (p, q) = both-true (isFactor l) (isFactor c) factors in
-    let (s, even) = both-true (within 2 256 (length xs) && leb (length xs) (length de)) (isEven xs ys zs) shaped in
-    let (t, enough) = both-true (within 2 256 (length xs)) (leb (length xs) (length de)) s in
-    let (low, high) = within-true 2 256 (length xs) t in
-    record {
-      some = low;
-      few = high;
-      enough = leb-true _ _ enough;
-      even = even-of-test xs ys zs even;
-      lightness = factor-of p;
-      chroma = factor-of q;
-    }
-
--- and each of the tests passes then
-module _ {l c : ℕ} {xs ys zs de : List Float} (call : CallIn l c xs ys zs de) where
-  shaped-of : isShaped xs ys zs (length de) ≡ true
-  unfolding isShaped isEven
-  shaped-of =
-      rw (
-        within-in 2 256 (length xs) (call .some) (call .few),
-        le-leb _ _ (call .enough),
-        eq-eqb _ _ (call .even .ys-length),
-        eq-eqb _ _ (call .even .zs-length),
-      )
-
-  factors-of : areFactors l c ≡ true
-  unfolding areFactors
-  factors-of = rw (of-factor (call .lightness), of-factor (call .chroma))
+    let (p, q) = factors-of-test l c factors in
+    record { shape = shaped-of-test xs ys zs (length de) shaped; lightness = factor-of p; chroma = factor-of q }
 
 -- ---- each way before the cones, in the one order
 
@@ -100,8 +100,9 @@ module _ (white l c : ℕ) (rs : List Reading) where
 pub in-turn-of :
     {l c : ℕ} {xs ys zs de : List Float} (white : ℕ) (rs : List Reading) {w : White} → CallIn l c xs ys zs de →
     whiteNumbered white ≡ W.Is w → delivered (isShaped xs ys zs (length de)) white l c rs ≡ conesIn w rs
-in-turn-of {l} {c} white rs call e =
-    ap (λ (b : Bool). delivered b white l c rs) (shaped-of call) ∙ in-turn white l c rs (sym e) refl (factors-of call)
+in-turn-of {l} {c} {xs} {ys} {zs} {de} white rs call e =
+    ap (λ (b : Bool). delivered b white l c rs) (test-of-shaped xs ys zs (length de) (call .shape))
+    ∙ in-turn white l c rs (sym e) refl (test-of-factors l c (of-factor (call .lightness)) (of-factor (call .chroma)))
 
 -- what is refused before the cones, or the cones themselves
 pub data Comes (shaped : Bool) (white l c : ℕ) (rs : List Reading) : Turns GridColour → Type 0 where

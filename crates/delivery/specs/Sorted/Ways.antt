@@ -61,7 +61,7 @@ module _ (k : Kind) (w : White) {l c : ℕ} {xs ys zs de : List Float} (asked : 
     all-taken = whole-exactly (turnIn w) noReading (readingsOf k xs ys zs) colours .0 is-whole
 
     count : length colours ≡ length xs
-    count = taken-length (turnIn w) all-taken ∙ readings-length k xs ys zs (asked .even)
+    count = taken-length (turnIn w) all-taken ∙ readings-length k xs ys zs (asked .shape .even)
 
     on-grid : Every OnGrid colours
     on-grid = taken-on-grid w all-taken
@@ -72,9 +72,9 @@ module _ (k : Kind) (w : White) {l c : ℕ} {xs ys zs de : List Float} (asked : 
     pub can-share : Shares sums (length xs)
     can-share =
         record {
-          some = omega (arith, asked .some);
-          few = asked .few;
-          sums = rw sums-are (sums-le on-grid (rw count (asked .few)));
+          some = omega (arith, asked .shape .some);
+          few = asked .shape .few;
+          sums = rw sums-are (sums-le on-grid (rw count (asked .shape .few)));
         }
 
     module _ {M : GridColour} (em : M ≡ meanOfSums sums (length xs)) where
@@ -84,13 +84,13 @@ module _ (k : Kind) (w : White) {l c : ℕ} {xs ys zs de : List Float} (asked : 
       pub has-room : Room l c M xs ys zs colours de
       has-room =
           record {
-            even = asked .even;
+            even = asked .shape .even;
             count = count;
-            few = asked .few;
-            enough = asked .enough;
+            few = asked .shape .few;
+            enough = asked .shape .enough;
             lightness = asked .lightness;
             chroma = asked .chroma;
-            mean = rw mean-is (mean-on-grid (omega (arith, count, asked .some)) on-grid);
+            mean = rw mean-is (mean-on-grid (omega (arith, count, asked .shape .some)) on-grid);
             colours = on-grid;
           }
 

@@ -8,7 +8,7 @@ use Rattle.delivery.proofs.sorted.sort_in.Tie as tie
 sum-of-requires : tie.Need-sum-of-requires
 sum-of-requires c κs =
     let asked = c .before .before .before .before .pre in
-    record { even = asked .even; few = asked .few }
+    record { even = asked .shape .even; few = asked .shape .few }
 
 module _ (c : tie.After-sum-of) where
   abbrev start : tie.Start
@@ -53,7 +53,7 @@ accepted c =
 few : tie.Need-cast-t23
 few c =
     let told = c .before .before .before .before .before .before .before .before in
-    omega (arith, start (at-sums told) .pre .few)
+    omega (arith, start (at-sums told) .pre .shape .few)
 
 pub sort-in-spec : {M : Type 1} → statement M
 sort-in-spec =
