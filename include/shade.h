@@ -61,7 +61,7 @@ uint32_t shade_version(void);
 #define SHADE_CMC 3
 
 /* white: illuminant and observer. X, Y, Z become L*, a*, b* by the white that was loaded, those of the test specimen
- * too. */
+ * too; those of a sort by the white that it is given. */
 #define SHADE_D65_10 1
 #define SHADE_D65_2 2
 #define SHADE_C_10 3
@@ -260,8 +260,8 @@ uint32_t shade_ticket(const uint8_t *text, size_t text_len, uint8_t *room, size_
  *     from the mean goes into de, entry i for cone i; entries past the count stay.
  *
  *     What it hands back: the refusal or 0; the mean; the cone with the greatest DE, the lowest number if several have
- *     it; how many cones there were. On a refusal all fields but number are 0, and de stays whole; but where a cone was
- *     refused, cone is the number of that cone, which can be 0 as well: number says whether there is one.
+ *     it; how many cones there were. On a refusal all fields but number are 0, and de stays whole; but with 5, 6 or 8,
+ *     which are a cone's, cone is the refused cone, which can be cone 0 as well.
  *
  *     Refusals, in this order; no other is given:
  *

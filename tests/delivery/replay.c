@@ -1,6 +1,7 @@
 /* Replays the deliveries of answers.rs through libshade.a and compares every answer with the paper's: each field that
  * is handed back and each entry of the result slice, by their bits. No call may touch a byte outside its slices
- * (fence.h), nor write one that holds readings.
+ * (fence.h), nor write one that holds readings. The calls are made in each of the processor's four rounding modes, which
+ * must not matter.
  *
  * Usage: delivery-answers | delivery    (answers.rs tells what a record holds)
  *
@@ -9,7 +10,7 @@
 #include "../shared/replay.h"
 
 enum { XYZ, LAB, END };
-enum { READINGS = 3, RESULTS = READINGS, SLICES, LONGEST = 512, FEWEST = 200000 };
+enum { READINGS = 3, RESULTS = READINGS, SLICES, ROUNDING = 2 * SLICES, LONGEST = 512, FEWEST = 200000 };
 
 /* A record's numbers are little-endian, as those of an x86-64 are. */
 struct record {
@@ -37,15 +38,29 @@ static double *lend_slice(const struct record *r, size_t slice)
     return (double *)pointer(&lents[slice], turn(SLICES + slice));
 }
 
+/* How an x86-64 rounds from now on: 0 to the nearest, 1 down, 2 up, 3 towards zero. */
+static void round_by(uint32_t mode)
+{
+    uint32_t word;
+    __asm__ volatile("stmxcsr %0" : "=m"(word) : : "memory");
+    word = (word & ~(uint32_t)0x6000) | mode << 13;
+    __asm__ volatile("ldmxcsr %0" : : "m"(word) : "memory");
+}
+
 static shade_sorted call(const struct record *r)
 {
     const double *v[READINGS] = {lend_slice(r, 0), lend_slice(r, 1), lend_slice(r, 2)};
     const uint64_t *n = r->counts;
     double *de = lend_slice(r, RESULTS);
+    shade_sorted sorted;
     stir_stack();
+    round_by((uint32_t)(turn(ROUNDING) + 2 * turn(ROUNDING + 1)));
     if (r->kind == XYZ)
-        return shade_sort_xyz(r->white, r->l, r->c, v[0], n[0], v[1], n[1], v[2], n[2], de, n[RESULTS]);
-    return shade_sort_lab(r->white, r->l, r->c, v[0], n[0], v[1], n[1], v[2], n[2], de, n[RESULTS]);
+        sorted = shade_sort_xyz(r->white, r->l, r->c, v[0], n[0], v[1], n[1], v[2], n[2], de, n[RESULTS]);
+    else
+        sorted = shade_sort_lab(r->white, r->l, r->c, v[0], n[0], v[1], n[1], v[2], n[2], de, n[RESULTS]);
+    round_by(0);
+    return sorted;
 }
 
 /* Whether a slice holds these floats and its guards stand. */

@@ -4,9 +4,12 @@ use colour::white::White;
 use comparison::comparison_of;
 use cones::Kind;
 use cones::colour_at;
-use reading::grid::value_of;
+use reading::grid::Grid;
 use sheet::formula::Formula;
 ghost use mathlib.Core.Path.{_≡_};
+ghost use Prim.Native.Nat.{_^_, _<_};
+ghost use lib.IntN.{pos};
+ghost use Rattle.reading.specs.Grid.{valueOf};
 ghost use Rattle.sheet.specs.Ranges.{InRange};
 ghost use Rattle.cones.specs.Cones.{readingsOf, coloursIn};
 ghost use Rattle.delivery.specs.Farthest.{fartherOf};
@@ -40,6 +43,14 @@ fn difference_from(l: u64, c: u64, mean: GridColour, cone: GridColour) -> u64
     differences.DE
 }
 
+// It as a float. By way of a signed number: of an unsigned zero a processor that rounds downwards makes -0.0.
+fn figure_of(d: u64) -> f64
+    requires { ⌜ d < 2 ^ 32 ⌝ }
+    ensures { λ x. ⌜ x ≡ valueOf (pos d) ⌝ }
+{
+    Grid::of_units(d as i64).value()
+}
+
 // One entry a cone from the start of `de`, the rest kept; and the farthest.
 pub(crate) fn write_differences(
     kind: Kind,
@@ -64,7 +75,7 @@ pub(crate) fn write_differences(
     while i < xs.len() {
         let cone = colour_at(kind, white, xs, ys, zs, i);
         let d = difference_from(l, c, mean, cone);
-        de[i] = value_of(d);
+        de[i] = figure_of(d);
         far = farther(far, d, i as u32);
         i += 1;
     }

@@ -13,8 +13,9 @@ use mathlib.Core.Path.{_≡_, refl, sym, ap, _∙_, subst}
 use mathlib.Core.Bool.{true}
 use mathlib.Core.Logic.{_↔_, _⊎_}
 use mathlib.Core.List.{List}
-use Prim.Native.Nat.{ℕ}
+use Prim.Native.Nat.{ℕ, _<_}
 use lib.Ieee.{Float}
+use lib.ListN.{length, getD}
 use Rattle.colour.specs.Conversion.{atPlaces}
 use Rattle.colour.specs.Placed.{place, placeWritten}
 use Rattle.colour.specs.declared.conversion.GridColour.{GridColour}
@@ -22,16 +23,17 @@ use Rattle.colour.specs.declared.placed.Placed.the-variants.{At}
 use Rattle.colour.specs.declared.placed.Reading.{Reading}
 use Rattle.colour.specs.declared.placed.Reading.the-variants.{Lab}
 use Rattle.colour.specs.declared.white.White.{White}
+use Rattle.sheet.specs.Settings.{formulaNumbered, Tolerance}
 use Rattle.sheet.specs.Sheet.{chromaOf, shift, sheet, comparison, verdict}
-use Rattle.sheet.specs.declared.differences.Differences.{Differences}
 use Rattle.sheet.specs.declared.formula.Formula.the-variants.{CMC}
 use Rattle.sheet.specs.declared.settings.Settings.{Settings}
 use Rattle.names.specs.Names.{lightnessName, chromaName, hueName}
 use Rattle.names.specs.Names.Withheld.{Achromatic}
+use Rattle.cones.specs.Cones.{readingsOf, noReading}
 use Rattle.cones.specs.declared.Kind.{Kind}
 use Rattle.delivery.specs.Sorted.{Sorts}
 use Rattle.delivery.specs.Sorted.Exact.{Delivery, HandedBack as DeliveryHandedBack, sorted-by-the-sheet}
-use Rattle.delivery.specs.Sorted.Exact.{mean, cone, DE, mean-in-range}
+use Rattle.delivery.specs.Sorted.Exact.{mean, cone, DE, mean-in-range, cone-placed}
 use Rattle.delivery.specs.Delivery.{differenceFrom}
 use Rattle.delivery.specs.declared.sorted.Sorted.{Sorted}
 use Rattle.ticket.specs.Ticket.{ticketOf}
@@ -40,8 +42,8 @@ use Rattle.ticket.specs.Ticket.Grammar.Right.{right-exactly}
 use Rattle.ticket.specs.declared.lines.Ticket.{Ticket}
 use Rattle.ticket.specs.declared.lines.Parsed.the-variants.{Right}
 use Rattle.standard.specs.Acceptance.{settingsOf}
-use Rattle.standard.specs.Acceptance.Laws.{accepted-made}
-use Rattle.standard.specs.Judgement.{judgementOf}
+use Rattle.standard.specs.Acceptance.Laws.{accepted-made, valid-accepted}
+use Rattle.standard.specs.Judgement.{judgementOf, outcome}
 use Rattle.standard.specs.Judgement.Laws.{verdict-is}
 use Rattle.standard.specs.Judgement.Withheld.{judgement-withheld}
 use Rattle.standard.specs.Figures.{referenceAnswer, specimenAnswer}
@@ -261,11 +263,39 @@ pub mean-as-a-standard :
 mean-as-a-standard k white l c xs ys zs de d h w =
     rw (h .lightness .is, h .a .is, h .b .is) (place-back w (mean d) (mean-in-range d))
 
--- and a cone that is judged by it, under CMC with the same l and c, has the same DE
-pub judged-by-the-mean :
-    (k : Kind) (white l c : ℕ) (xs ys zs de : List Float) (d : Delivery k white l c xs ys zs de) (i : ℕ)
-    (by : Settings) {j : Judgement} → by .formula ≡ CMC → by .l ≡ l → by .c ≡ c →
-    OfTheSheet by (mean d) (cone d i) j → j .comparison .differences .DE ≡ DE d i
-unfolding differenceFrom
-judged-by-the-mean k white l c xs ys zs de d i by ef el ec o =
-    ap (λ (x : Differences). x .DE) (o .differences) ∙ rw (ef, el, ec)
+-- under CMC with the same white, l and c
+module _ (k : Kind) (white l c : ℕ) (xs ys zs de : List Float) (d : Delivery k white l c xs ys zs de) (tolerance : ℕ)
+  where
+    abbrev pub meanStandard : Standard
+    meanStandard =
+        record {
+          settings = record { formula = CMC; white = d .in-white; l = l; c = c; tolerance = tolerance };
+          colour = mean d;
+        }
+
+    -- it is loaded as a standard, by any tolerance in its range
+    pub mean-loaded :
+        {r : Sorted} {left : List Float} → DeliveryHandedBack d r left → Tolerance tolerance →
+        loaded (settingsOf 3 white l c tolerance) (Lab (r .lightness) (r .a) (r .b)) ≡ Accepted meanStandard
+    unfolding loaded settingsOf formulaNumbered
+    mean-loaded h in-range =
+        rw (d .white-is, mean-as-a-standard k white l c xs ys zs de d h (d .in-white))
+        (valid-accepted meanStandard
+        (record {
+          l = d .call .lightness;
+          c = d .call .chroma;
+          tolerance = in-range;
+          colour = mean-in-range d;
+        }))
+
+    -- and by it the reading of cone i is judged, with the DE of the sort
+    module _ (i : ℕ) (few : i < length xs) where
+      pub judged-by-the-mean :
+          judgedBy (Holds meanStandard) (getD (readingsOf k xs ys zs) i noReading)
+          ≡ Judged (judgementOf meanStandard (cone d i))
+      unfolding judgedBy outcome
+      judged-by-the-mean = rw (cone-placed d i few)
+
+      pub judged-DE : judgementOf meanStandard (cone d i) .comparison .differences .DE ≡ DE d i
+      unfolding judgementOf comparison differenceFrom
+      judged-DE = refl

@@ -1,7 +1,7 @@
 -- What the loop that writes goes by: i figures are written, and searched for the farthest. Assumes nothing.
 use mathlib.Core.Path.{_≡_, sym, ap, _∙_}
 use mathlib.Core.List.{List, map}
-use Prim.Native.Nat.{ℕ, _+_, _≤_, _<_}
+use Prim.Native.Nat.{ℕ, _+_, _^_, _≤_, _<_}
 use lib.Ieee.{Float}
 use lib.IntN.{pos}
 use lib.ListN.{length, getD, set, length-map, List·getD-map}
@@ -12,6 +12,7 @@ use Rattle.sheet.specs.Ranges.{InRange}
 use Rattle.cones.specs.Cones.{noColour}
 use Rattle.delivery.specs.declared.farthest.Far.{Far}
 use Rattle.delivery.specs.Delivery.{differenceFrom, differencesFrom}
+use Rattle.delivery.specs.Delivery.Laws.{difference-lt}
 use Rattle.delivery.specs.Farthest.{fartherOf, nothingYet}
 use Rattle.delivery.specs.Farthest.Laws.{Searching, searching-none, searching-more, searching-all}
 use Rattle.delivery.specs.Written.{Writing, writing-none, writing-more, writing-all}
@@ -75,6 +76,10 @@ module _ {l c : ℕ} {M : GridColour} {xs ys zs : List Float} {cs : List GridCol
             reference = room .mean;
             specimen = rw at (every-at (room .colours) i noColour has-colour);
           }
+
+      pub difference-small : {d : ℕ} → d ≡ differenceFrom l c M T → d < 2 ^ 32
+      difference-small e =
+          rw e (difference-lt (room .lightness) (room .chroma) (room .mean) (cone-in-range .specimen))
 
       pub difference-at :
           {d : ℕ} → d ≡ differenceFrom l c M T → d ≡ getD (differencesFrom l c M cs) i (differenceFrom l c M noColour)

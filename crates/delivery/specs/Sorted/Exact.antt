@@ -16,16 +16,18 @@ use Rattle.rounding.specs.Signed.{∣_∣}
 use Rattle.reading.specs.Grid.{valueOf}
 use Rattle.reading.specs.Grid.Laws.{value-exact}
 use Rattle.colour.specs.Conversion.Ranges.{OnGrid}
+use Rattle.colour.specs.Placed.{place}
 use Rattle.colour.specs.White.{whiteNumbered}
 use Rattle.colour.specs.declared.conversion.GridColour.{GridColour}
+use Rattle.colour.specs.declared.placed.Placed.the-variants.{At}
 use Rattle.colour.specs.declared.placed.Reading.{Reading}
 use Rattle.colour.specs.declared.white.White.{White}
 use Rattle.colour.specs.declared.white.Numbered.the-variants as W
 use Rattle.cones.specs.InTurn.{Turns, whole, refused, numberOf}
-use Rattle.cones.specs.InTurn.Exactly.{AllTaken, taken-length, whole-exactly}
+use Rattle.cones.specs.InTurn.Exactly.{AllTaken, taken-length, taken-at, whole-exactly}
 use Rattle.cones.specs.Cones.{readingsOf, noReading, turnIn, conesIn, noColour}
 use Rattle.cones.specs.Cones.Exactly.{cone-refused-by}
-use Rattle.cones.specs.Cones.Laws.{readings-length, taken-on-grid}
+use Rattle.cones.specs.Cones.Laws.{readings-length, taken-of, taken-on-grid}
 use Rattle.cones.specs.declared.Kind.{Kind}
 use Rattle.standard.specs.Figures.{zero}
 use Rattle.standard.specs.Figures.Exact.{Exact}
@@ -89,6 +91,14 @@ module _ {k : Kind} {white l c : ℕ} {xs ys zs de : List Float} (d : Delivery k
 
   pub cone-on-grid : (i : ℕ) → i < length xs → OnGrid (cone i)
   cone-on-grid i few = every-at colours-on-grid i noColour (rw colours-count few)
+
+  -- the reading of cone i is placed at its colour
+  pub cone-placed :
+      (i : ℕ) → i < length xs → place (d .in-white) (getD (readingsOf k xs ys zs) i noReading) ≡ At (cone i)
+  cone-placed i few =
+      taken-of
+      (taken-at (turnIn (d .in-white)) (d .placed) i noReading noColour
+      (rw (readings-length k xs ys zs (d .call .shape .even)) few))
 
   pub mean-in-range : OnGrid mean
   mean-in-range = mean-on-grid (omega (arith, colours-count, d .call .shape .some)) colours-on-grid

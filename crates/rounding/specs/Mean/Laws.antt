@@ -1,5 +1,5 @@
--- What callers use of sums and means: how large they are, that a mean lies where the numbers lie, that their order does
--- not matter, and that equal numbers have themselves for a mean. Assumes nothing.
+-- What callers use of sums and means: how large they are, that a mean is no greater in magnitude than the numbers are,
+-- that their order does not matter, and that equal numbers have themselves for a mean. Assumes nothing.
 use mathlib.Core.Path.{_≡_, refl, sym, ap, ap₂, _∙_}
 use mathlib.Core.Bool.{false, true≢false}
 use mathlib.Core.List.{List, [], _∷_, _++_, List·Permᴰ, List·Permᴰ·nil, List·Permᴰ·cons, List·Permᴰ·swap}

@@ -7,7 +7,8 @@ use lib.ListN.{length}
 use Rattle.cones.specs.Cones.{readingsOf, coloursIn}
 use Rattle.delivery.specs.Delivery.{differencesFrom}
 use Rattle.delivery.specs.Room.Laws.{Setting, setting-none, setting-more, setting-all}
-use Rattle.delivery.specs.Room.Laws.{room-count, room-enough, has-colour, cone-in-range, difference-at}
+use Rattle.delivery.specs.Room.Laws.{room-count, room-enough, has-colour, cone-in-range, difference-small}
+use Rattle.delivery.specs.Room.Laws.{difference-at}
 use Rattle.delivery.proofs.farthest.write_differences.Statement.{statement}
 use Rattle.delivery.proofs.farthest.write_differences.Tie as tie
 
@@ -41,17 +42,24 @@ difference-from-requires c κs =
     let turn = c .before in
     cone-in-range (start turn .pre) (head turn .loop .i) (turn .loop-test .taken) (c .colour-at .ensures)
 
+figure-of-requires : tie.Need-figure-of-requires Inv-loop μ-loop
+figure-of-requires c κs =
+    let at-colour = c .before in
+    let turn = at-colour .before in
+    difference-small (start turn .pre) (head turn .loop .i) (turn .loop-test .taken) (at-colour .colour-at .ensures)
+    (c .difference-from .ensures)
+
 loop-again : tie.Need-loop-again Inv-loop μ-loop
 loop-again c =
-    let at-value = c .before in
-    let at-difference = at-value .before in
+    let at-figure = c .before in
+    let at-difference = at-figure .before in
     let at-colour = at-difference .before in
     let turn = at-colour .before in
     let room = start turn .pre in
     setting-more _ _ (room-enough room) (head turn .loop .inv) _ (rw (room-count room) (turn .loop-test .taken))
     (difference-at room (head turn .loop .i) (turn .loop-test .taken) (at-colour .colour-at .ensures)
     (at-difference .difference-from .ensures))
-    (at-value .value-of .ensures) (c .farther .ensures)
+    (at-figure .figure-of .ensures) (c .farther .ensures)
 
 returns : tie.Need-returns Inv-loop μ-loop
 returns c =
@@ -68,7 +76,7 @@ write-differences-spec =
     loop-holds
     colour-at-requires
     difference-from-requires
-    (λ c κs. search needs)
+    figure-of-requires
     (λ c. search needs)
     (λ c. in-slice (c .before .before .before))
     (λ c. search needs)
