@@ -1,18 +1,17 @@
 -- docs/SCOPE.md 13.6, of sorts as they are called: which are accepted; two sorts of the same cones in another order; a
 -- sort whose cones all have one reading. Assumes nothing.
-use mathlib.Core.Path.{_≡_, refl, sym, ap, ap₂, subst, _∙_}
+use mathlib.Core.Path.{_≡_, sym, ap, ap₂, subst, _∙_}
 use mathlib.Core.List.{List, List·Permᴰ}
 use mathlib.Core.Logic.{_↔_}
-use Prim.Native.Nat.{ℕ, suc, _≤_, _<_}
-use Prim.Native.Nat as Nat
-use native.Mathlib.Nat.{zero-lt-suc}
+use Prim.Native.Nat.{ℕ, _≤_, _<_}
 use native.Mathlib.Omega.{arith}
-use lib.Ieee.{Float, div, ofInt}
+use lib.Ieee.{Float}
 use lib.IntN.{pos}
 use lib.ListN.{length, getD}
 use Rattle.rounding.specs.Every.{Every, every-at}
 use Rattle.rounding.specs.Mean.Laws.{length-perm}
 use Rattle.reading.specs.Grid.{valueOf}
+use Rattle.reading.specs.Reading.Cases.{reading-cases}
 use Rattle.colour.specs.Placed.{place}
 use Rattle.colour.specs.White.{whiteNumbered}
 use Rattle.colour.specs.declared.conversion.GridColour.{GridColour}
@@ -30,22 +29,25 @@ use Rattle.standard.specs.Figures.{zero}
 use Rattle.delivery.specs.declared.sorted.Sorted.{Sorted}
 use Rattle.delivery.specs.Delivery.{differenceFrom}
 use Rattle.delivery.specs.Delivery.Facts.{mean-in-any-order, mean-of-one-colour, no-difference-of-one}
-use Rattle.delivery.specs.Sorted.{sortCall, Sorts}
-use Rattle.delivery.specs.Sorted.Laws.{in-turn-of, answer-number}
+use Rattle.delivery.specs.Delivery.Facts.{farthest-of-one-colour}
+use Rattle.delivery.specs.Sorted.{sortedOf, answerOf, Sorts}
+use Rattle.delivery.specs.Sorted.Laws.{in-turn-of}
 use Rattle.delivery.specs.Sorted.Exact.{Delivery, mean, cone, DE, colours-count, HandedBack, sorted-by-the-sheet}
 
 -- ---- ACCEPTED, EXACTLY THEN: every cone is placed, and the call is in order
 
 module _ (k : Kind) (white l c : ℕ) (xs ys zs de : List Float) {r : Sorted} {left : List Float}
     (g : Sorts k white l c xs ys zs de r left) where
+  answer-is : (d : Delivery k white l c xs ys zs de) → r ≡ sortedOf l c (d .colours)
+  answer-is d =
+      g .answer
+      ∙ ap (answerOf l c)
+      (in-turn-of white (readingsOf k xs ys zs) (d .call) (d .white-is)
+      ∙ whole-exactly (turnIn (d .in-white)) noReading (readingsOf k xs ys zs) (d .colours) .1 (d .placed))
+
   accepted : Delivery k white l c xs ys zs de → r .number ≡ 0
-  accepted d =
-      ap (λ (s : Sorted). s .number) (g .answer)
-      ∙ answer-number l c (sortCall k white l c xs ys zs (length de))
-      ∙ rw (
-        in-turn-of white (readingsOf k xs ys zs) (d .call) (d .white-is),
-        whole-exactly (turnIn (d .in-white)) noReading (readingsOf k xs ys zs) (d .colours) .1 (d .placed),
-      )
+  unfolding sortedOf
+  accepted d = ap (λ (s : Sorted). s .number) (answer-is d)
 
   pub accepted-exactly : r .number ≡ 0 ↔ Delivery k white l c xs ys zs de
   accepted-exactly = (λ none. sorted-by-the-sheet k white l c xs ys zs de g none .0, accepted)
@@ -164,10 +166,6 @@ pub record OneReading (white : ℕ) (one : Reading) (r : Sorted) (left : List Fl
   pub entry : (i : ℕ) → i < r .cones → getD left i zero ≡ zero
   pub farthest : r .farthest ≡ 0
 
-zero-back : valueOf (pos 0) ≡ zero
-unfolding valueOf div ofInt
-zero-back = refl
-
 module _ {k : Kind} {white l c : ℕ} {xs ys zs de : List Float} (d : Delivery k white l c xs ys zs de) {one : Reading}
     (same : Every (λ (r : Reading). r ≡ one) (readingsOf k xs ys zs)) where
   some : 0 < length (readingsOf k xs ys zs)
@@ -181,20 +179,22 @@ module _ {k : Kind} {white l c : ℕ} {xs ys zs de : List Float} (d : Delivery k
   one-colour : Every (λ (c : GridColour). c ≡ cone d 0) (d .colours)
   one-colour = taken-same (turnIn (d .in-white)) turn-of-one (d .placed) same
 
+  some-colours : 0 < length (d .colours)
+  some-colours = rw (colours-count d) (omega (arith, d .call .shape .some))
+
   mean-is : mean d ≡ cone d 0
-  mean-is = mean-of-one-colour (cone d 0) (rw (colours-count d) (omega (arith, d .call .shape .some))) one-colour
+  mean-is = mean-of-one-colour (cone d 0) some-colours one-colour
 
   DE-is : (i : ℕ) → i < length xs → DE d i ≡ 0
   DE-is i few =
       ap₂ (differenceFrom l c) mean-is (every-at one-colour i noColour (rw (colours-count d) few))
       ∙ no-difference-of-one l c (cone d 0)
 
-  none-farther : (at : ℕ) → at < length xs → ((i : ℕ) → i < at → DE d i < DE d at) → at ≡ 0
-  none-farther Nat.zero few first = refl
-  none-farther (suc at) few first = absurd (omega (arith, first 0 (zero-lt-suc at), DE-is (suc at) few))
-
-  handed-of-one : {r : Sorted} {left : List Float} → HandedBack d r left → OneReading white one r left
-  handed-of-one h =
+  handed-of-one :
+      {r : Sorted} {left : List Float} → r ≡ sortedOf l c (d .colours) → HandedBack d r left →
+      OneReading white one r left
+  unfolding sortedOf
+  handed-of-one is h =
       record {
         in-white = d .in-white;
         white-is = d .white-is;
@@ -206,8 +206,11 @@ module _ {k : Kind} {white l c : ℕ} {xs ys zs de : List Float} (d : Delivery k
         entry =
             λ i few.
             let within : i < length xs = rw (sym (h .count)) few in
-            h .entry i within .is ∙ ap (λ (n : ℕ). valueOf (pos n)) (DE-is i within) ∙ zero-back;
-        farthest = none-farther _ (h .farthest-cone) (h .farthest-first);
+            h .entry i within .is ∙ ap (λ (n : ℕ). valueOf (pos n)) (DE-is i within)
+            ∙ reading-cases .zero-back;
+        farthest =
+            ap (λ (s : Sorted). s .farthest) is
+            ∙ farthest-of-one-colour (cone d 0) some-colours one-colour l c;
       }
 
 pub sorted-of-one-reading :
@@ -216,4 +219,4 @@ pub sorted-of-one-reading :
     Every (λ (r : Reading). r ≡ one) (readingsOf k xs ys zs) → OneReading white one r left
 sorted-of-one-reading k white l c xs ys zs de g none same =
     let (d, back) = sorted-by-the-sheet k white l c xs ys zs de g none in
-    handed-of-one d same back
+    handed-of-one d same (answer-is k white l c xs ys zs de g d) back
