@@ -10,7 +10,8 @@
 --   DL and DC component, DH componentH, DE total
 --
 -- Definitions only: `Sheet/Laws.antt` has what callers go by, `Sheet/Bounds.antt` the sizes that the code relies on,
--- `Sheet/Facts.antt` what a reader may ask, `Sheet/Cases.antt` the figures of SCOPE 12.1. Assumes nothing.
+-- `Sheet/Facts.antt` and `Sheet/Factors.antt` what a reader may ask, `Sheet/Cases.antt` the figures of SCOPE 12.1.
+-- Assumes nothing.
 use mathlib.Core.Bool.{Bool, true, false, not, cond, _&&_, _||_}
 use Prim.Native.Nat.{ℕ, _+_, _-_, _*_, _/_, _^_}
 use lib.Dec.{leb, ltb, eqb}
@@ -32,6 +33,7 @@ use Rattle.sheet.specs.declared.verdict.Verdict.the-variants.{Near, Pass
 pub mod Laws
 pub mod Bounds
 pub mod Facts
+pub mod Factors
 pub mod Apart
 pub mod Cases
 
