@@ -43,16 +43,16 @@ extern "C" {
 #endif
 
 /* THE VERSION
- *     SHADE_VERSION is 100 * MAJOR + MINOR, a number for #if: 1.4 is 104, and SHADE_VERSION >= 104 asks for 1.4 or
+ *     SHADE_VERSION is 100 * MAJOR + MINOR, a number for #if: 1.5 is 105, and SHADE_VERSION >= 105 asks for 1.5 or
  *     later. It is this header's; shade_version() answers that of the library that the host was linked with. Where the
  *     two differ in the major number, the host was compiled for other calls, and should not go on. A higher minor
  *     number: calls were added, or a report can be another one for the same pair. Since 1.2 its figures are the
- *     nearest; since 1.3 an achromatic test specimen withholds as an achromatic reference does. Since 1.4 there are the
- *     sorts. */
+ *     nearest; since 1.3 an achromatic test specimen withholds as an achromatic reference does; since 1.5 a ticket
+ *     without l and c is judged by 2:1. Since 1.4 there are the sorts. */
 #define SHADE_VERSION_MAJOR 1
-#define SHADE_VERSION_MINOR 4
+#define SHADE_VERSION_MINOR 5
 #define SHADE_VERSION (100 * SHADE_VERSION_MAJOR + SHADE_VERSION_MINOR)
-#define SHADE_VERSION_STRING "1.4"
+#define SHADE_VERSION_STRING "1.5"
 uint32_t shade_version(void);
 
 /* formula: a figure or a tolerance of one is in another unit than one of another: the two are not to be compared. */
@@ -186,7 +186,7 @@ static inline size_t shade_report_length(const uint8_t *room, size_t len)
 }
 
 /* THE TICKET
- *     A text of these lines, each ended by LF, and nothing after them; l and c may both be left out, for 1.000 each:
+ *     A text of these lines, each ended by LF, and nothing after them:
  *
  *         formula=CMC                          CIELAB, CIE94 or CMC
  *         white=D65/10                         D65/10, D65/2, C/10 or C/2
@@ -196,6 +196,10 @@ static inline size_t shade_report_length(const uint8_t *room, size_t len)
  *         space=LAB                            XYZ or LAB
  *         ref=52.5 10.25 -7                    three numbers, one space between; each perhaps a minus, 1 to 3 digits,
  *         test=50.75 11 -7.25                  perhaps a point and 1 to 6 digits
+ *
+ *     The lines l and c may both be left out, and not one alone: l is 2.000 then and c is 1.000, for whether a match
+ *     will do on textiles (BS 6923). Before version 1.5 each was 1.000; a ticket that is to ask that, for how large a
+ *     difference looks, writes l=1.000 and c=1.000. The report says which l and c it goes by.
  *
  *     Capitals count, and there is no room for a CR, a tab, a plus or a second space. */
 #define SHADE_TICKET_BYTES 4096

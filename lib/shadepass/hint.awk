@@ -495,9 +495,9 @@ function cause_in_unknown(m) {
 # A key that belongs elsewhere.
 function cause_in_place(m, found) {
     if (key[m] == "l" && found == "c" && !comes("l", m))
-        return "c without l: write both lines, l= and then c=, or neither, which means 1.000 each"
+        return "c without l: write both lines, l= and then c=, or neither, which means l=2.000 and c=1.000"
     if (key[m] == "c" && found == "tol" && !comes("c", m))
-        return "l without c: write both lines, l= and then c=, or neither, which means 1.000 each"
+        return "l without c: write both lines, l= and then c=, or neither, which means l=2.000 and c=1.000"
     return cause_in_order(m, found)
 }
 

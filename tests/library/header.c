@@ -97,8 +97,8 @@ void fields(shade_sorted *sorted, uint32_t **numbers, double **figures)
 
 /* The version is a number that an #if can take. */
 IS(SHADE_VERSION_MAJOR, 1);
-IS(SHADE_VERSION_MINOR, 4);
-#if SHADE_VERSION != 100 * SHADE_VERSION_MAJOR + SHADE_VERSION_MINOR || SHADE_VERSION < 104
+IS(SHADE_VERSION_MINOR, 5);
+#if SHADE_VERSION != 100 * SHADE_VERSION_MAJOR + SHADE_VERSION_MINOR || SHADE_VERSION < 105
 #error "SHADE_VERSION is not 100 * MAJOR + MINOR"
 #endif
-IS(SHADE_VERSION, 104);
+IS(SHADE_VERSION, 105);

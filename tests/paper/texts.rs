@@ -75,6 +75,7 @@ pub fn without(from: usize, to: usize) -> Vec<u8> {
 fn right_texts() {
     prints(&text_of(&WHOLE_CASE), WHOLE_REPORT);
     same_ticket_in_other_words();
+    without_l_and_c();
     verdicts_and_withheld();
     whole_reports();
     // SCOPE 3.3 and 3.4: the ends are in range
@@ -88,12 +89,37 @@ fn right_texts() {
 }
 
 fn same_ticket_in_other_words() {
-    prints(&without(3, 4), WHOLE_REPORT);
     for edits in [
         "l=1|c=01.0|tol=01.00|ref=050.000000 -0 -000.0",
         "l=01.00|c=1.0|tol=1|test=51.0 0.000 -0.000000",
     ] {
         prints(&with(edits), WHOLE_REPORT);
+    }
+}
+
+/// SCOPE 9.1: l is 2.000 and c is 1.000 where their lines are missing, and the report says so.
+fn without_l_and_c() {
+    // SCOPE 12.1, case 8: DL = 481743
+    let report = WHOLE_REPORT.replace("l=1.000", "l=2.000");
+    prints(&without(3, 4), &report.replace("0.9189", "0.4594"));
+    // SCOPE 12.1, cases 9 and 10: c counts as 1; by CIE94 besides 1.25 lighter, of which l takes half
+    for (edits, figures) in [
+        ("test=50 3 4", "DE=7.8370\nDL=0.0000\nDC=withheld"),
+        (
+            "formula=CIE94|test=51.25 3 4",
+            "DE=5.0389\nDL=0.6250\nDC=5.0000",
+        ),
+        (
+            "formula=CIELAB|test=50 3 4",
+            "DE=5.0000\nDL=0.0000\nDC=5.0000",
+        ),
+    ] {
+        let written = with(&format!("{edits}|l=2.000|c=1.000"));
+        let lines: Vec<_> = written.split_inclusive(|&byte| byte == b'\n').collect();
+        let report = String::from_utf8(printed(&written)).expect("a text");
+        let factors_and_figures = format!("\nl=2.000\nc=1.000\n{figures}\n");
+        assert!(report.contains(&factors_and_figures), "{edits}: {report}");
+        prints(&[&lines[..2], &lines[4..]].concat().concat(), &report);
     }
 }
 

@@ -6,6 +6,9 @@ use super::settings::Formula;
 /// SCOPE 9.1: at most so many bytes.
 pub const LONGEST_TICKET: usize = 4_096;
 
+/// SCOPE 9.1: l and c, in thousandths, where their lines are missing.
+pub const MISSING: [u64; 2] = [2_000, 1_000];
+
 #[derive(Clone, Copy, PartialEq, Eq, Debug)]
 pub enum Space {
     Xyz,
@@ -136,9 +139,9 @@ pub fn parse(text: &[u8]) -> Result<Ticket, usize> {
     };
     let formula = lines.value("formula", |word| named(&FORMULAS, word))?;
     let white = lines.value("white", |word| named(&WHITES, word))?;
-    // "The lines l and c may both be missing: then 1.000 each. Line 3 starting with tol= says so."
+    // "The lines l and c may both be missing; a line 3 that starts with tol= says that they are."
     let [l, c] = if lines.rest.starts_with(b"tol=") {
-        [1_000; 2]
+        MISSING
     } else {
         [
             lines.value("l", thousandths)?,

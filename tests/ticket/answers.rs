@@ -36,6 +36,7 @@ fn main() {
     }
     right::refusals(&mut tickets);
     right::tolerance_ends(&mut tickets);
+    right::weightings(&mut tickets);
     right::printed_ends(&mut tickets);
     right::achromatic_ends(&mut tickets);
     damage::others(&mut tickets);

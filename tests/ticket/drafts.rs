@@ -1,7 +1,7 @@
 //! What a ticket is to say, and its text.
 
 use crate::paper::standard::accepted;
-use crate::paper::ticket::{Decimal, Space, Ticket, FORMULAS, SPACES, WHITES};
+use crate::paper::ticket::{Decimal, Space, Ticket, FORMULAS, MISSING, SPACES, WHITES};
 use crate::random::Random;
 use crate::readings::{Reading, WIDEST};
 
@@ -19,7 +19,7 @@ pub struct Draft {
 
 impl Draft {
     pub fn ticket(&self) -> Ticket {
-        let [l, c] = self.factors.unwrap_or([1_000; 2]);
+        let [l, c] = self.factors.unwrap_or(MISSING);
         let decimals = |reading: Reading| {
             reading.map(|number| Decimal {
                 minus: number < 0,
@@ -64,7 +64,7 @@ impl Random {
     }
 
     /// Gives a ticket that is accepted a tolerance.
-    fn settle(&mut self, draft: &mut Draft) {
+    pub fn settle(&mut self, draft: &mut Draft) {
         draft.tolerance = match accepted(&draft.ticket()) {
             Ok((standard, test)) => self.tolerance_near(standard.sheet(test).de),
             Err(_) => 100 + self.below(9_901),
@@ -76,7 +76,7 @@ impl Random {
         let is_wrong = |place: u64| wrong >> place & 1 == 1;
         let space = SPACES[draft.space].0;
         if is_wrong(0) || is_wrong(1) {
-            let [l, c] = draft.factors.unwrap_or([1_000; 2]);
+            let [l, c] = draft.factors.unwrap_or(MISSING);
             let l = if is_wrong(0) { self.wrong_factor() } else { l };
             let c = if is_wrong(1) { self.wrong_factor() } else { c };
             draft.factors = Some([l, c]);

@@ -1,6 +1,10 @@
 //! Tickets whose text is right.
 
 use crate::aimed::one_way_apart;
+use crate::drafts::Draft;
+use crate::paper::report::report;
+use crate::paper::sheet::{verdict, Verdict, PLACES};
+use crate::paper::standard::accepted;
 use crate::readings::{ONE, SIDE};
 use crate::records::Tickets;
 
@@ -44,6 +48,50 @@ pub fn tolerance_ends(tickets: &mut Tickets) {
         draft.test = [l + eighths * ONE / 8, across[0], across[1]];
         draft.tolerance = (eighths * 125 + random.pick(&[-3, -2, 2, 3])).max(100) as u64;
         tickets.draft(&draft);
+    }
+}
+
+/// One pair without the lines l and c, with the same factors written out, and with others that are
+/// easily taken for them. The tolerance is mostly not far from the DE by one of these, so that the
+/// verdict often hangs on which it is.
+pub fn weightings(tickets: &mut Tickets) {
+    const WEIGHTINGS: [[u64; 2]; 4] = [[2_000, 1_000], [1_000; 2], [1_000, 2_000], [2_000; 2]];
+    for _ in 0..4_000 {
+        let random = &mut tickets.random;
+        let mut draft = random.ticket();
+        draft.formula = random.pick(&[0, 1, 2, 2]);
+        draft.factors = Some(random.pick(&WEIGHTINGS));
+        random.settle(&mut draft);
+        draft.factors = None;
+        no_worse_than_by_1_1(&draft);
+        tickets.draft(&draft);
+        for factors in WEIGHTINGS {
+            draft.factors = Some(factors);
+            tickets.draft(&draft);
+        }
+    }
+}
+
+/// SCOPE 6.4: by 2:1 DE is not larger than by 1:1, what passes by 1:1 passes, and what fails fails by
+/// 1:1. Of the report only l, DE, DL and the verdict are others, and it is not longer.
+fn no_worse_than_by_1_1(draft: &Draft) {
+    let judged = |factors| {
+        let ticket = Draft { factors, ..*draft }.ticket();
+        let (standard, test) = accepted(&ticket).ok()?;
+        let de = standard.sheet(test).de;
+        let verdict = verdict(PLACES, de, ticket.tolerance.into());
+        let report = String::from_utf8(report(&standard, test)).expect("a text");
+        Some((de, verdict, report))
+    };
+    if let [Some(house), Some(equal)] = [None, Some([1_000; 2])].map(judged) {
+        assert!(house.0 <= equal.0);
+        assert!(equal.1 != Verdict::Pass || house.1 == Verdict::Pass);
+        assert!(house.1 != Verdict::Fail || equal.1 == Verdict::Fail);
+        assert!(house.2.len() <= equal.2.len());
+        for (of_house, of_equal) in house.2.lines().zip(equal.2.lines()) {
+            let moves = ["l=", "DE=", "DL=", "verdict="].map(|key| of_house.starts_with(key));
+            assert!(of_house == of_equal || moves.contains(&true), "{of_house}");
+        }
     }
 }
 

@@ -8,7 +8,7 @@ use crate::paper::conversion::Colour;
 use crate::paper::refusals::Answer;
 use crate::paper::report;
 use crate::paper::settings;
-use crate::paper::sheet::Sheet;
+use crate::paper::sheet::{verdict, Sheet, PLACES};
 use crate::paper::standard::{accepted, place, Standard};
 use crate::paper::ticket::{self, Ticket};
 
@@ -60,14 +60,33 @@ impl Seen {
             ("over 65536 bytes", text.len() > 65_536),
         ]);
         if let Ok(ticket) = ticket::parse(text) {
-            self.forms(&String::from_utf8_lossy(text));
+            let text = String::from_utf8_lossy(text);
+            self.forms(&text);
             self.ticket(&ticket);
+            if !text.contains("\nl=") {
+                self.without_l_and_c(&ticket);
+            }
         }
+    }
+
+    /// A text without l and c, in which the verdict can hang on what they are.
+    fn without_l_and_c(&mut self, ticket: &Ticket) {
+        let verdict_by = |[l, c]: [u64; 2]| {
+            let (standard, test) = accepted(&Ticket { l, c, ..*ticket }).ok()?;
+            let tolerance = standard.tolerance.into();
+            Some(verdict(PLACES, standard.sheet(test).de, tolerance))
+        };
+        let own = verdict_by([ticket.l, ticket.c]);
+        self.notes([
+            ("without l and c", true),
+            ("another verdict by 1:1", verdict_by([1_000; 2]) != own),
+            ("another verdict by 1:2", verdict_by([1_000, 2_000]) != own),
+            ("another verdict by 2:2", verdict_by([2_000; 2]) != own),
+        ]);
     }
 
     /// How the numbers of a right text are written.
     fn forms(&mut self, text: &str) {
-        self.note("without l and c", !text.contains("\nl="));
         for line in text.lines() {
             let (key, value) = line.split_once('=').expect("each line has a key");
             let numbers = match key {

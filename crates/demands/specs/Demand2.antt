@@ -25,6 +25,7 @@ use Rattle.colour.specs.declared.placed.Reading.the-variants.{Lab}
 use Rattle.colour.specs.declared.white.White.{White}
 use Rattle.sheet.specs.Settings.{formulaNumbered, Tolerance}
 use Rattle.sheet.specs.Sheet.{chromaOf, shift, sheet, comparison, verdict}
+use Rattle.sheet.specs.declared.formula.Formula.{Formula}
 use Rattle.sheet.specs.declared.formula.Formula.the-variants.{CMC}
 use Rattle.sheet.specs.declared.settings.Settings.{Settings}
 use Rattle.names.specs.Names.{lightnessName, chromaName, hueName}
@@ -36,11 +37,15 @@ use Rattle.delivery.specs.Sorted.Exact.{Delivery, HandedBack as DeliveryHandedB
 use Rattle.delivery.specs.Sorted.Exact.{mean, cone, DE, mean-in-range, cone-placed}
 use Rattle.delivery.specs.Delivery.{differenceFrom}
 use Rattle.delivery.specs.declared.sorted.Sorted.{Sorted}
+use Rattle.text.specs.Ascii.{ascii}
+use Rattle.text.specs.Bytes.{startsWith}
 use Rattle.ticket.specs.Ticket.{ticketOf}
+use Rattle.ticket.specs.Ticket.AsWritten.{without, written, right-as-written}
 use Rattle.ticket.specs.Ticket.Grammar.{Consists}
 use Rattle.ticket.specs.Ticket.Grammar.Right.{right-exactly}
 use Rattle.ticket.specs.declared.lines.Ticket.{Ticket}
-use Rattle.ticket.specs.declared.lines.Parsed.the-variants.{Right}
+use Rattle.ticket.specs.declared.lines.Parsed.{Parsed}
+use Rattle.ticket.specs.declared.lines.Parsed.the-variants.{Right, Wrong}
 use Rattle.standard.specs.Acceptance.{settingsOf}
 use Rattle.standard.specs.Acceptance.Laws.{accepted-made, valid-accepted}
 use Rattle.standard.specs.Judgement.{judgementOf, outcome}
@@ -63,9 +68,10 @@ use Rattle.calls.specs.Outcome.Load.{accepted-load}
 use Rattle.calls.specs.Outcome.Judge.{judged-said, judge-number, judge-room, judge-some}
 use Rattle.calls.specs.Outcome.Ticket.{ticket-said, ticket-number, ticket-room, ticket-some}
 use Rattle.calls.specs.Line.{ticketAnswer}
-use Rattle.calls.specs.Calls.{Answer, loadCall, judgeCall, ticketCall}
+use Rattle.calls.specs.Calls.{Answer, loadCall, judgeCall, ticketCall, reported as reportedBy}
 use Rattle.calls.specs.Calls.Every.{place-back}
 use Rattle.calls.specs.Calls.Exact.{load-exact, judge-exact, ticket-exact}
+use Rattle.calls.specs.Calls.Laws.{ticket-call-is}
 use Rattle.calls.specs.Calls.Ticket.{BothSay, onceLoaded, onceStored, ticket-does-both, ticket-call-does-both}
 use Rattle.calls.specs.Runs.{Call, sliceAfter, loads}
 use Rattle.calls.specs.Runs.Laws.{run-load, run-judge, run-holds-last, zeros-judge}
@@ -193,6 +199,29 @@ unfolding ticketCall
 ticket-report text room column e =
     reported (ticketFaults (ticketOf text)) _ (ticket-number (ticketOf text)) (ticket-room (ticketOf text))
     (λ m h. ticket-some (ticketOf text) h) room column e
+
+-- WITHOUT THE LINES L AND C, which the line tol shows at the head of r, a ticket comes to what it comes to with l=2.000
+-- and c=1.000 in their places; `without` and `written` are the two texts, in crates/ticket/specs/Ticket/AsWritten.antt
+module _ (f : Formula) (w : White) (r : List ℕ) (tol : startsWith (ascii "tol=") r ≡ true) where
+  -- by value
+  pub outcome-as-written : ticketOutcome (ticketOf (without f w r)) ≡ ticketOutcome (ticketOf (written f w r))
+  unfolding ticketOutcome
+  outcome-as-written = go (ticketOf (without f w r)) refl (ticketOf (written f w r)) refl
+    where
+      go :
+          (p : Parsed) → ticketOf (without f w r) ≡ p → (q : Parsed) → ticketOf (written f w r) ≡ q
+          → ticketOutcome p ≡ ticketOutcome q
+      go (Right t) e q g = ap ticketOutcome (sym (right-as-written f w r tol .0 e) ∙ g)
+      go (Wrong m) e (Right t) g = ap ticketOutcome (sym e ∙ right-as-written f w r tol .1 g)
+      go (Wrong m) e (Wrong n) g = refl
+
+  -- and over slices
+  pub call-as-written :
+      (room : List ℕ) (column : ℕ) → ticketCall (without f w r) room column ≡ ticketCall (written f w r) room column
+  call-as-written room column =
+      ticket-call-is (without f w r) room column
+      ∙ ap (λ (o : Outcome). reportedBy o room column) outcome-as-written
+      ∙ sym (ticket-call-is (written f w r) room column)
 
 -- A TICKET DOES BOTH FROM A FRESH STATION: whatever load and judgement say the same as it, it comes to the load's
 -- refusal, or else to what the judgement comes to by the station which that load leaves; by value

@@ -6,12 +6,12 @@ pub major : ℕ
 major = 1
 
 pub minor : ℕ
-minor = 4
+minor = 5
 
 pub version : ℕ
 version = 100 * major + minor
 
--- of 1.4 it is 104
-pub in-figures : 104 ≡ version
+-- of 1.5 it is 105
+pub in-figures : 105 ≡ version
 unfolding version major minor
 in-figures = refl

@@ -145,7 +145,7 @@ pub extern "C" fn shade_sort_lab(
 
 const MAJOR: u32 = 1;
 
-const MINOR: u32 = 4;
+const MINOR: u32 = 5;
 
 // SHADE_VERSION of the header that this library was made with.
 #[no_mangle]

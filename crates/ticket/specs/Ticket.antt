@@ -1,7 +1,7 @@
 -- The ticket of docs/SCOPE.md 9.1 to 9.3 as the code reads it, line by line: the ticket, or the number of the first
 -- wrong line. Definitions only. Ticket/Grammar.antt says the same of a text's lines, with no parser, and shows the two
--- to be one; Ticket/Laws.antt has what the proofs go by, Ticket/Theorems.antt what follows, Ticket/Cases.antt texts and
--- their answers. Assumes nothing.
+-- to be one; Ticket/Laws.antt has what the proofs go by, Ticket/Theorems.antt and Ticket/AsWritten.antt what follows,
+-- Ticket/Cases.antt texts and their answers. Assumes nothing.
 use Prim.Native.Nat.{ℕ, _+_}
 use mathlib.Core.Bool.{cond, _&&_}
 use mathlib.Core.List.{List, [], _∷_}
@@ -29,6 +29,7 @@ pub mod Laws
 pub mod Grammar
 pub mod Print
 pub mod Theorems
+pub mod AsWritten
 pub mod Cases
 
 -- ---- what a value says
@@ -118,13 +119,16 @@ factorLines n p s =
     cond (startsWith (ascii "tol=") s) (tolLine n p s)
     (due n (ascii "l=") thousandthsOf (λ x. cLine (n + 1) (filled p x (p .c) (p .tolerance))) s)
 
--- l and c where their lines are missing, in thousandths
-abbrev pub missing : ℕ
-missing = 1000
+-- l and c where both their lines are missing, in thousandths: for the acceptability of a match
+abbrev pub missingL : ℕ
+missingL = 2000
+
+abbrev pub missingC : ℕ
+missingC = 1000
 
 -- before the line l; no ticket lacks a tolerance
 abbrev pub blank : Formula → White → Settings
-blank f w = record { formula = f; white = w; l = missing; c = missing; tolerance = 0 }
+blank f w = record { formula = f; white = w; l = missingL; c = missingC; tolerance = 0 }
 
 unfoldable pub whiteLine : ℕ → Formula → List ℕ → Parsed
 whiteLine n f = due n (ascii "white=") whiteNamed (λ w. factorLines (n + 1) (blank f w))

@@ -144,8 +144,10 @@ fn factor_lines(s: &[u8], n: u32, mut settings: Settings) -> Parsed
     }
 }
 
-// l and c where their lines are missing, in thousandths.
-const MISSING: u64 = 1000;
+// l and c where both their lines are missing, in thousandths.
+const MISSING_L: u64 = 2000;
+
+const MISSING_C: u64 = 1000;
 
 fn white_line(s: &[u8], n: u32, formula: Formula) -> Parsed
     requires { ⌜ n ≤ 2 ⌝ }
@@ -159,8 +161,8 @@ fn white_line(s: &[u8], n: u32, formula: Formula) -> Parsed
             let blank = Settings {
                 formula: formula,
                 white: x,
-                l: MISSING,
-                c: MISSING,
+                l: MISSING_L,
+                c: MISSING_C,
                 tolerance: 0,
             };
             factor_lines(rest, n + 1, blank)

@@ -1,5 +1,5 @@
--- Texts with what is printed for them, by computing: the whole case of docs/SCOPE.md 11.1, and refusals. No proof cites
--- this. Assumes nothing.
+-- Texts with what is printed for them, by computing: the whole case of docs/SCOPE.md 11.1, a ticket without l and c, and
+-- refusals. No proof cites this. Assumes nothing.
 use Prim.Native.String.{String}
 use mathlib.Core.Path.{_≡_, refl}
 use mathlib.Core.List.{List, [], _∷_, _++_}
@@ -52,6 +52,23 @@ pub record PrintedCases : Type 0 where
       ∷ ascii "hue=withheld\n"
       ∷ ascii "verdict=pass\n"
       ∷ [])
+  -- the same pair without the lines l and c, which are 2.000 and 1.000 then: case 8 of SCOPE 12.1
+  pub without-l-and-c :
+      from3 "tol=1.000\nspace=LAB\nref=50 0 0\ntest=51 0 0\n"
+      ≡ joined
+      (ascii "formula=CMC\n"
+      ∷ ascii "white=D65/10\n"
+      ∷ ascii "l=2.000\n"
+      ∷ ascii "c=1.000\n"
+      ∷ ascii "DE=0.4594\n"
+      ∷ ascii "DL=0.4594\n"
+      ∷ ascii "DC=withheld\n"
+      ∷ ascii "DH=withheld\n"
+      ∷ ascii "lightness=lighter\n"
+      ∷ ascii "chroma=withheld\n"
+      ∷ ascii "hue=withheld\n"
+      ∷ ascii "verdict=pass\n"
+      ∷ [])
   pub empty : printedFor "" ≡ ascii "refused=7 line=1\n"
   pub third-line :
       from3 "l=1,000\nc=1.000\ntol=1.000\nspace=LAB\nref=50 0 0\ntest=51 0 0\n" ≡ ascii "refused=7 line=3\n"
@@ -69,4 +86,12 @@ unfolding rootOf _÷_ decimalUnits atPlaces take placeWritten within
     settingLines figureLines wordLines reportText
     numberAt firstOf refusal rangeFaults acceptFaults acceptance judgementOf outcome ticketOutcome refusalLine
     printedText
-printed-cases = record { whole-case = refl; empty = refl; third-line = refl; factor = refl; out-of-range = refl }
+printed-cases =
+    record {
+      whole-case = refl;
+      without-l-and-c = refl;
+      empty = refl;
+      third-line = refl;
+      factor = refl;
+      out-of-range = refl;
+    }

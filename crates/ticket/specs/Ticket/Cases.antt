@@ -38,7 +38,7 @@ pub record TicketCases : Type 0 where
       from3 "tol=00.5\nspace=XYZ\nref=-0 007.5 -0.000001\ntest=999.999999 1 2\n"
       ≡ Right
       (record {
-        settings = record { formula = CMC; white = D65Ten; l = 1000; c = 1000; tolerance = 500 };
+        settings = record { formula = CMC; white = D65Ten; l = 2000; c = 1000; tolerance = 500 };
         reference = Xyz (decimalBelow true 0) (decimalBelow false 7500000) (decimalBelow true 1);
         test = Xyz (decimalBelow false 999999999) (decimalBelow false 1000000) (decimalBelow false 2000000);
       })

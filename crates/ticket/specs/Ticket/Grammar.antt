@@ -15,7 +15,7 @@ use Rattle.text.specs.Number.{thousandthsOf, signedOf}
 use Rattle.text.specs.Put.{joined, line}
 use Rattle.reading.specs.declared.decimal.Decimal.{Decimal}
 use Rattle.colour.specs.declared.placed.Written.{Written}
-use Rattle.ticket.specs.Ticket.{formulaNamed, whiteNamed, spaceNamed, spaceOf, inSpace}
+use Rattle.ticket.specs.Ticket.{formulaNamed, whiteNamed, spaceNamed, spaceOf, inSpace, missingL, missingC}
 use Rattle.ticket.specs.declared.value.Space.{Space}
 use Rattle.ticket.specs.declared.lines.Ticket.{Ticket}
 pub mod Free
@@ -26,6 +26,7 @@ pub mod Wrong
 pub mod Read
 pub mod Spelt
 pub mod Right
+pub mod Lengths
 pub mod Cases
 
 -- ---- the places of a ticket's lines
@@ -113,11 +114,12 @@ pub data WrongAt (n : ℕ) (s : List ℕ) : Type 0 where
 abbrev pub textOf : (value : Place → List ℕ) → List Place → List ℕ
 textOf value ps = joined (map (λ p. line (key p) (value p)) ps)
 
--- the text consists of a right ticket's lines, and their values say the ticket t; l and c that are missing are 1.000
+-- the text consists of a right ticket's lines, and their values say the ticket t; where the lines l and c are missing,
+-- it has 2.000 and 1.000
 pub record Consists (t : Ticket) (s : List ℕ) : Type 0 where
   pub value : Place → List ℕ
   pub said : (p : Place) → Says t p (value p)
   pub text :
       (s ≡ textOf value allPlaces)
-      ⊎ ((s ≡ textOf value withoutLAndC) × (value l ≡ ascii "1.000") × (value c ≡ ascii "1.000"))
+      ⊎ ((s ≡ textOf value withoutLAndC) × (t .settings .l ≡ missingL) × (t .settings .c ≡ missingC))
   pub at-most : length s ≤ 4096

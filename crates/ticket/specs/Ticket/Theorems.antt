@@ -4,11 +4,11 @@ use mathlib.Core.Path.{_≡_, refl, sym}
 use mathlib.Core.List.{List}
 use mathlib.Core.Logic.{inl, inr}
 use lib.ListN.{length}
-use Rattle.ticket.specs.Ticket.{missing, ticketOf}
+use Rattle.ticket.specs.Ticket.{missingL, missingC, ticketOf}
 use Rattle.ticket.specs.Ticket.Grammar.Right.{right-exactly}
 use Rattle.ticket.specs.Ticket.Laws.{ticket-of-long}
 use Rattle.ticket.specs.Ticket.Print.{printed, printTicket, printShort, Writable}
-use Rattle.ticket.specs.Ticket.Print.Laws.{printed-said, one-printed}
+use Rattle.ticket.specs.Ticket.Print.Laws.{printed-said}
 use Rattle.ticket.specs.Ticket.Print.Lengths.{print-le, print-short-le}
 use Rattle.ticket.specs.declared.lines.Ticket.{Ticket}
 use Rattle.ticket.specs.declared.lines.Parsed.the-variants.{Right, Wrong}
@@ -21,14 +21,14 @@ module _ (t : Ticket) (w : Writable t) where
       (record { value = printed t; said = printed-said t w; text = inl refl; at-most = print-le t })
 
   -- l and c may be left out where they are what a ticket without them has
-  pub short-parses : t .settings .l ≡ missing → t .settings .c ≡ missing → ticketOf (printShort t) ≡ Right t
+  pub short-parses : t .settings .l ≡ missingL → t .settings .c ≡ missingC → ticketOf (printShort t) ≡ Right t
   unfolding printShort
   short-parses el ec =
       right-exactly (printShort t) t .1
       (record {
         value = printed t;
         said = printed-said t w;
-        text = inr (refl, one-printed el, one-printed ec);
+        text = inr (refl, el, ec);
         at-most = print-short-le t;
       })
 

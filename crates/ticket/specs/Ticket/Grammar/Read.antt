@@ -3,19 +3,19 @@ use Prim.Native.Nat.{ℕ, _+_, _≤_}
 use mathlib.Core.Path.{_≡_, refl, sym, ap, _∙_}
 use mathlib.Core.List.{List, [], _∷_, _++_, append-assoc}
 use mathlib.Core.Logic.{⊎-elim}
-use mathlib.Core.Option.{Option, some, Option·some-injective}
+use mathlib.Core.Option.{Option, some}
 use mathlib.Core.Bool.{true}
 use lib.ListN.{length}
 use lib.Seq.{drop-append-seam}
 use Rattle.text.specs.Ascii.{ascii}
-use Rattle.text.specs.Bytes.{indexOf, before, after, startsWith}
+use Rattle.text.specs.Bytes.{startsWith}
 use Rattle.text.specs.Bytes.Parts.{free, free-append, has-append, before-append, after-append, starts-append}
-use Rattle.text.specs.Number.{numeral, digitsOf, fractionOf, decimalOf, thousandthsOf}
+use Rattle.text.specs.Number.{thousandthsOf}
 use Rattle.text.specs.Put.{line}
 use Rattle.sheet.specs.declared.settings.Settings.{Settings}
 use Rattle.ticket.specs.Ticket.{formulaNamed, whiteNamed, spaceNamed, spaceOf, readingOf, due, nothingMore}
-use Rattle.ticket.specs.Ticket.{testLine, refLine, spaceLine, tolLine, cLine, filled, factorLines, missing, blank}
-use Rattle.ticket.specs.Ticket.{whiteLine, ticketOf}
+use Rattle.ticket.specs.Ticket.{testLine, refLine, spaceLine, tolLine, cLine, filled, factorLines}
+use Rattle.ticket.specs.Ticket.{missingL, missingC, blank, whiteLine, ticketOf}
 use Rattle.ticket.specs.Ticket.Grammar.{Place, key, allPlaces, withoutLAndC, Says, textOf, Consists}
 use Rattle.ticket.specs.Ticket.Grammar.Values.{of-said, says-free}
 use Rattle.ticket.specs.Ticket.Laws.{factors-missing, factors-given, ticket-of-short}
@@ -23,7 +23,7 @@ use Rattle.ticket.specs.declared.lines.Ticket.{Ticket}
 use Rattle.ticket.specs.declared.lines.Parsed.{Parsed}
 use Rattle.ticket.specs.declared.lines.Parsed.the-variants.{Right}
 
-due-line :
+pub due-line :
     {A : Type 0} (n : ℕ) (key v rest : List ℕ) (value : List ℕ → Option A) (next : A → List ℕ → Parsed) {x : A}
     → free 10 key ≡ true → free 10 v ≡ true → value v ≡ some x → due n key value next (line key v ++ rest) ≡ next x rest
 unfolding due line
@@ -50,13 +50,6 @@ key-free Place.tol = refl
 key-free Place.space = refl
 key-free Place.ref = refl
 key-free Place.test = refl
-
-pub one-is-missing : thousandthsOf (ascii "1.000") ≡ some missing
-unfolding decimalOf digitsOf fractionOf numeral before after indexOf
-one-is-missing = refl
-
-missing-is : {v : List ℕ} {n : ℕ} → thousandthsOf v ≡ some n → v ≡ ascii "1.000" → missing ≡ n
-missing-is h e = Option·some-injective _ _ (sym one-is-missing ∙ ap thousandthsOf (sym e) ∙ h)
 
 module _ (t : Ticket) (value : Place → List ℕ) (said : (p : Place) → Says t p (value p)) where
   due-said :
@@ -111,8 +104,7 @@ module _ (t : Ticket) (value : Place → List ℕ) (said : (p : Place) → Says 
         ∙ last-lines 5 _
 
     read-short :
-        s ≡ textOf value withoutLAndC → value Place.l ≡ ascii "1.000" → value Place.c ≡ ascii "1.000"
-        → ticketOf s ≡ Right t
+        s ≡ textOf value withoutLAndC → t .settings .l ≡ missingL → t .settings .c ≡ missingC → ticketOf s ≡ Right t
     unfolding startsWith line
     read-short e el ec =
         let p = t .settings in
@@ -120,7 +112,7 @@ module _ (t : Ticket) (value : Place → List ℕ) (said : (p : Place) → Says 
         ∙ last-lines 3 first
         ∙ (λ i. Right
         (record {
-          settings = filled p (missing-is (said Place.l) el i) (missing-is (said Place.c) ec i) (p .tolerance);
+          settings = filled p (sym el i) (sym ec i) (p .tolerance);
           reference = t .reference;
           test = t .test;
         }))

@@ -9,18 +9,28 @@ use lib.Dec.{ltb}
 use lib.ListN.{length}
 use borrow.Author.Tests.{ltb-false}
 use Rattle.text.specs.Ascii.{ascii}
-use Rattle.text.specs.Bytes.{startsWith}
-use Rattle.text.specs.Number.{thousandthsOf}
+use Rattle.text.specs.Bytes.{indexOf, before, after, startsWith}
+use Rattle.text.specs.Number.{numeral, digitsOf, fractionOf, decimalOf, thousandthsOf}
 use Rattle.text.specs.Put.{joined, line}
 use Rattle.colour.specs.declared.white.White.{White}
 use Rattle.sheet.specs.declared.formula.Formula.{Formula}
 use Rattle.ticket.specs.Ticket.{formulaNamed, whiteNamed, due, tolLine, cLine, filled, factorLines, blank}
-use Rattle.ticket.specs.Ticket.{missing, whiteLine, ticketOf}
+use Rattle.ticket.specs.Ticket.{missingL, missingC, whiteLine, ticketOf}
 use Rattle.ticket.specs.Ticket.Grammar.{Place, key, Says, textOf, Consists}
-use Rattle.ticket.specs.Ticket.Grammar.Read.{one-is-missing, consists-read}
+use Rattle.ticket.specs.Ticket.Grammar.Read.{consists-read}
 use Rattle.ticket.specs.Ticket.Grammar.Spelt.{wrong-right, read, Spelt, fromTol, tol-spelt}
 use Rattle.ticket.specs.declared.lines.Ticket.{Ticket}
 use Rattle.ticket.specs.declared.lines.Parsed.the-variants.{Right, Wrong}
+
+-- ---- l and c where they are missing, as their lines would say them
+
+pub l-in-digits : thousandthsOf (ascii "2.000") ≡ some missingL
+unfolding decimalOf digitsOf fractionOf numeral before after indexOf
+l-in-digits = refl
+
+pub c-in-digits : thousandthsOf (ascii "1.000") ≡ some missingC
+unfolding decimalOf digitsOf fractionOf numeral before after indexOf
+c-in-digits = refl
 
 -- ---- such lines are a text of the grammar
 
@@ -71,19 +81,20 @@ module _ (t : Ticket) where
     factors-spelt :
         s ≡ firstTwo r → formulaNamed f ≡ some x → whiteNamed w ≡ some y → (b : Bool)
         → cond b (tolLine 3 (blank x y) r)
-        (due 3 (key Place.l) thousandthsOf (λ n. cLine 4 (filled (blank x y) n missing 0)) r)
+        (due 3 (key Place.l) thousandthsOf (λ n. cLine 4 (filled (blank x y) n missingC 0)) r)
         ≡ Right t → Consists t s
     unfolding cLine values
     factors-spelt e hf hw true g =
         let k = tol-spelt t 3 (blank x y) r g in
-        let one = ascii "1.000" in
+        let l = ascii "2.000" in
+        let c = ascii "1.000" in
         let said =
-        all-said f w one one r (k .1) (hf ∙ ap some (sym (k .0 .formula))) (hw ∙ ap some (sym (k .0 .white)))
-        (one-is-missing ∙ ap some (sym (k .0 .l))) (one-is-missing ∙ ap some (sym (k .0 .c))) in
+        all-said f w l c r (k .1) (hf ∙ ap some (sym (k .0 .formula))) (hw ∙ ap some (sym (k .0 .white)))
+        (l-in-digits ∙ ap some (sym (k .0 .l))) (c-in-digits ∙ ap some (sym (k .0 .c))) in
         record {
-          value = values f w one one r (k .1);
+          value = values f w l c r (k .1);
           said = said;
-          text = inr (e ∙ ap firstTwo (last-text f w one one r (k .1)), refl, refl);
+          text = inr (e ∙ ap firstTwo (last-text f w l c r (k .1)), k .0 .l, k .0 .c);
           at-most = at-most;
         }
     factors-spelt e hf hw false g =

@@ -124,12 +124,12 @@ reads-free k =
     rw (k .parted)
     (free-append 10 (k .first) _ first (free-append 10 (k .second) _ second (free-append 10 (k .third) [] third refl)))
 
-free-formula : (f : Formula) → free 10 (formulaName f) ≡ true
+pub free-formula : (f : Formula) → free 10 (formulaName f) ≡ true
 free-formula CIELAB = refl
 free-formula CIE94 = refl
 free-formula CMC = refl
 
-free-white : (w : White) → free 10 (whiteName w) ≡ true
+pub free-white : (w : White) → free 10 (whiteName w) ≡ true
 free-white D65Ten = refl
 free-white D65Two = refl
 free-white CTen = refl

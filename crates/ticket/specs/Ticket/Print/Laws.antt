@@ -1,10 +1,8 @@
 -- What is printed in a place says what the ticket has there. Assumes nothing.
-use Prim.Native.Nat.{ℕ, _^_, _<_}
-use mathlib.Core.Path.{_≡_, refl, ap, subst}
+use Prim.Native.Nat.{_^_, _<_}
+use mathlib.Core.Path.{_≡_, refl, subst}
 use mathlib.Core.Option.{some}
-use Rattle.text.specs.Ascii.{ascii}
 use Rattle.text.specs.Bytes.{startsWith, sameBytes}
-use Rattle.text.specs.Decimal.{lastDigits, widthIn, decimalText}
 use Rattle.text.specs.Names.{formulaName, whiteName}
 use Rattle.text.specs.Number.Written.{thousandths-written, signed-written}
 use Rattle.reading.specs.declared.decimal.Decimal.{Decimal}
@@ -16,20 +14,20 @@ use Rattle.sheet.specs.declared.formula.Formula.{Formula}
 use Rattle.sheet.specs.declared.formula.Formula.the-variants.{CIELAB, CIE94, CMC}
 use Rattle.ticket.specs.Ticket.{named, formulaNamed, whiteNamed, spaceName, spaceNamed, spaceOf, inSpace}
 use Rattle.ticket.specs.Ticket.Grammar.{Place, Reads, Says}
-use Rattle.ticket.specs.Ticket.Print.{number, triple, readingText, thousandthsText, printed, Fits, Writable}
+use Rattle.ticket.specs.Ticket.Print.{number, triple, readingText, printed, Fits, Writable}
 use Rattle.ticket.specs.declared.value.Space.{Space}
 use Rattle.ticket.specs.declared.value.Space.the-variants.{Xyz, Lab}
 use Rattle.ticket.specs.declared.lines.Ticket.{Ticket}
 
 -- ---- names
 
-formula-read : (f : Formula) → formulaNamed (formulaName f) ≡ some f
+pub formula-read : (f : Formula) → formulaNamed (formulaName f) ≡ some f
 unfolding named sameBytes startsWith
 formula-read CIELAB = refl
 formula-read CIE94 = refl
 formula-read CMC = refl
 
-white-read : (w : White) → whiteNamed (whiteName w) ≡ some w
+pub white-read : (w : White) → whiteNamed (whiteName w) ≡ some w
 unfolding named sameBytes startsWith
 white-read D65Ten = refl
 white-read D65Two = refl
@@ -80,8 +78,3 @@ module _ (t : Ticket) (w : Writable t) where
   printed-said Place.test =
       let own = reading-read (t .test) (w .test-fits) in
       subst (λ (p : Space). Reads p (readingText (t .test)) (t .test)) (w .one-space) own
-
--- 1000 thousandths are printed as 1.000
-pub one-printed : {m : ℕ} → m ≡ 1000 → thousandthsText m ≡ ascii "1.000"
-unfolding decimalText lastDigits widthIn
-one-printed e = ap thousandthsText e
