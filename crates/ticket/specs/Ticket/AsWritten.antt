@@ -35,8 +35,11 @@ use Rattle.ticket.specs.declared.lines.Parsed.the-variants.{Right, Wrong
 abbrev pub without : Formula → White → (r : List ℕ) → List ℕ
 without f w r = line (ascii "formula=") (formulaName f) ++ (line (ascii "white=") (whiteName w) ++ r)
 
+abbrev pub lAndC : (r : List ℕ) → List ℕ
+lAndC r = line (ascii "l=") (ascii "2.000") ++ (line (ascii "c=") (ascii "1.000") ++ r)
+
 abbrev pub written : Formula → White → (r : List ℕ) → List ℕ
-written f w r = without f w (line (ascii "l=") (ascii "2.000") ++ (line (ascii "c=") (ascii "1.000") ++ r))
+written f w r = without f w (lAndC r)
 
 -- the number of a wrong line, higher by two
 abbrev pub twoMore : Parsed → Parsed
@@ -87,14 +90,12 @@ module _ (f : Formula) (w : White) (r : List ℕ) where
       ∙ due-line 1 (ascii "formula=") (formulaName f) _ formulaNamed _ refl (free-formula f) (formula-read f)
       ∙ due-line 2 (ascii "white=") (whiteName w) u whiteNamed _ refl (free-white w) (white-read w)
 
-  factors-written :
-      factorLines 3 (blank f w) (line (ascii "l=") (ascii "2.000") ++ (line (ascii "c=") (ascii "1.000") ++ r))
-      ≡ tolLine 5 (blank f w) r
+  factors-written : factorLines 3 (blank f w) (lAndC r) ≡ tolLine 5 (blank f w) r
   unfolding cLine startsWith line
   factors-written =
-      sym (factors-given 3 (blank f w) _ refl refl)
-      ∙ due-line 3 (ascii "l=") (ascii "2.000") _ thousandthsOf _ refl refl l-in-digits
-      ∙ due-line 4 (ascii "c=") (ascii "1.000") r thousandthsOf _ refl refl c-in-digits
+      sym (factors-given 3 (blank f w) (lAndC r) refl refl)
+      ∙ due-line 3 (ascii "l=") _ _ thousandthsOf _ refl refl l-in-digits
+      ∙ due-line 4 (ascii "c=") _ r thousandthsOf _ refl refl c-in-digits
 
   pub as-written :
       startsWith (ascii "tol=") r ≡ true → length (written f w r) ≤ 4096
