@@ -1,5 +1,5 @@
--- Texts with what is printed for them, by computing: the whole case of docs/SCOPE.md 11.1, a ticket without l and c, and
--- refusals. No proof cites this. Assumes nothing.
+-- Texts with what is printed for them, by computing: the whole case of docs/SCOPE.md 11.1, the same without l and c,
+-- and refusals. No proof cites this. Assumes nothing.
 use Prim.Native.String.{String}
 use mathlib.Core.Path.{_≡_, refl}
 use mathlib.Core.List.{List, [], _∷_, _++_}

@@ -42,7 +42,8 @@ fraction-few whole places s true e k h =
     omega (arith, digits-lt places t (g .1) .few, ap length (parted 46 s e), length-append (before 46 s) (46 ∷ t))
 fraction-few whole places s false e k h = omega (arith, ap length (before-all 46 s e))
 
-decimal-few : (whole places : ℕ) (s : List ℕ) {w : ℕ} → decimalOf whole places s ≡ some w → length s ≤ whole + 1 + places
+decimal-few :
+    (whole places : ℕ) (s : List ℕ) {w : ℕ} → decimalOf whole places s ≡ some w → length s ≤ whole + 1 + places
 unfolding decimalOf
 decimal-few whole places s h =
     let g = both-some (λ v d. v * 10 ^ places + d) (digitsOf whole (before 46 s)) (fractionOf places s) h in
