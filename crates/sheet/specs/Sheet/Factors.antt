@@ -1,15 +1,14 @@
--- What larger factors do: with an l and a c that are not smaller, no DE is larger. So a pass stays a pass, and no pair
--- fails that did not fail before. At every n, under each formula. Assumes nothing.
-use mathlib.Core.Path.{_≡_, refl, sym}
+-- What larger factors do: a larger l or c, both above 0, makes no DE larger. So a pass stays a pass, and no pair fails
+-- that did not fail before. At every n, under each formula. Assumes nothing.
+use mathlib.Core.Path.{_≡_, refl}
 use mathlib.Core.Logic.{_⊎_, inl, inr}
 use Prim.Native.Nat.{ℕ, _+_, _*_, _/_, _^_, _≤_, _<_}
-use native.Mathlib.Nat.{eq-zero-or-pos, mul-pos, mul-zero, mul-le-mul, mul-le-mul-left, mul-le-mul-right}
+use native.Mathlib.Nat.{eq-zero-or-pos, mul-pos, mul-zero, mul-le-mul, mul-le-mul-right}
 use native.Mathlib.Omega.{arith}
 use lib.IntN.{ℤ}
-use Rattle.rounding.specs.Fraction.{fraction-law, le-div}
-use Rattle.rounding.specs.Root.{rootOf, root-law}
-use Rattle.rounding.specs.Root.Laws.{le-root}
-use Rattle.rounding.specs.Signed.{∣_∣, square}
+use Rattle.rounding.specs.Fraction.{div-antitone}
+use Rattle.rounding.specs.Root.Laws.{root-mono}
+use Rattle.rounding.specs.Signed.{∣_∣}
 use Rattle.colour.specs.declared.conversion.GridColour.{GridColour}
 use Rattle.sheet.specs.Sheet.{component, total, factorUnder, differences, sheet, verdict}
 use Rattle.sheet.specs.Sheet.Facts.{Says, verdict-says, below-of-pass, above-of-fail}
@@ -21,27 +20,17 @@ use Rattle.sheet.specs.declared.verdict.Verdict.the-variants.{Near, Pass
 
 -- ---- line 8
 
-quotient-le : (m S : ℕ) {l k : ℕ} → 0 < l → l ≤ k → m / (k * S) ≤ m / (l * S)
-quotient-le m S {l} {k} some le = either (eq-zero-or-pos S)
-  where
-    either : (S ≡ 0) ⊎ (0 < S) → m / (k * S) ≤ m / (l * S)
-    either (inl z) = rw (z, mul-zero k, mul-zero l) (omega arith)
-    either (inr p) =
-        let more : m / (k * S) * (l * S) ≤ m / (k * S) * (k * S) = mul-le-mul-left _ (mul-le-mul-right S le) in
-        let low = fraction-law m (k * S) (mul-pos (omega arith) p) .low in
-        le-div m (l * S) (m / (k * S)) (mul-pos some p) (omega arith)
-
 component-le : (n S : ℕ) (Δ : ℤ) {l k : ℕ} → 0 < l → l ≤ k → ∣ component n k S Δ ∣ ≤ ∣ component n l S Δ ∣
-component-le n S Δ {l} {k} some le =
-    rw (abs-component n k S Δ, abs-component n l S Δ) (quotient-le (1000 * 2 ^ n * ∣ Δ ∣) S some le)
-
-root-le : {x y : ℕ} → x ≤ y → rootOf 2 x ≤ rootOf 2 y
-root-le {x} {y} le = le-root 2 y (rootOf 2 x) (omega arith) (omega (arith, root-law 2 x (omega arith) .low))
+component-le n S Δ {l} {k} some le = rw (abs-component n k S Δ, abs-component n l S Δ) (either (eq-zero-or-pos S))
+  where
+    either : (S ≡ 0) ⊎ (0 < S) → 1000 * 2 ^ n * ∣ Δ ∣ / (k * S) ≤ 1000 * 2 ^ n * ∣ Δ ∣ / (l * S)
+    either (inl z) = rw (z, mul-zero k, mul-zero l) (omega arith)
+    either (inr p) = div-antitone (1000 * 2 ^ n * ∣ Δ ∣) (mul-pos some p) (mul-le-mul-right S le)
 
 total-le :
     (DL EL DC EC DH : ℤ) → ∣ EL ∣ ≤ ∣ DL ∣ → ∣ EC ∣ ≤ ∣ DC ∣ → total EL EC DH ≤ total DL DC DH
 unfolding total
-total-le DL EL DC EC DH hl hc = root-le (omega (arith, mul-le-mul hl hl, mul-le-mul hc hc))
+total-le DL EL DC EC DH hl hc = root-mono 2 (omega arith) (omega (arith, mul-le-mul hl hl, mul-le-mul hc hc))
 
 -- ---- the sheet
 
@@ -55,8 +44,10 @@ factor-pos CIELAB h = omega arith
 factor-pos CIE94 h = h
 factor-pos CMC h = h
 
-module _ (n : ℕ) (f : Formula) {l c k e : ℕ} (l-some : 0 < l) (c-some : 0 < c) (l-le : l ≤ k) (c-le : c ≤ e) where
-  module _ (R T : GridColour) where
+module _
+    (n : ℕ) (f : Formula) {l c k e : ℕ} (l-some : 0 < l) (c-some : 0 < c) (l-le : l ≤ k) (c-le : c ≤ e)
+    (R T : GridColour)
+  where
     pub DE-no-larger : sheet n f k e R T .DE ≤ sheet n f l c R T .DE
     unfolding sheet differences
     DE-no-larger =
