@@ -200,8 +200,9 @@ ticket-report text room column e =
     reported (ticketFaults (ticketOf text)) _ (ticket-number (ticketOf text)) (ticket-room (ticketOf text))
     (λ m h. ticket-some (ticketOf text) h) room column e
 
--- WITHOUT THE LINES L AND C, which the line tol shows at the head of r, a ticket comes to what it comes to with l=2.000
--- and c=1.000 in their places; `without` and `written` are the two texts, in crates/ticket/specs/Ticket/AsWritten.antt
+-- WITHOUT THE LINES L AND C, its first two lines right and r starting with tol=, a ticket comes to what it comes to
+-- with l=2.000 and c=1.000 in their places. `without` and `written` are the two texts, in
+-- crates/ticket/specs/Ticket/AsWritten.antt
 module _ (f : Formula) (w : White) (r : List ℕ) (tol : startsWith (ascii "tol=") r ≡ true) where
   -- by value
   pub outcome-as-written : ticketOutcome (ticketOf (without f w r)) ≡ ticketOutcome (ticketOf (written f w r))

@@ -1,8 +1,8 @@
--- A TICKET WITHOUT THE LINES L AND C is read as the one that has l=2.000 and c=1.000 in their places, whatever follows:
--- as the same ticket (`right-as-written`), or as wrong at the same line, whose number is higher by two there
--- (`as-written`). Assumes nothing.
+-- A TICKET WITHOUT THE LINES L AND C is read as the one that has l=2.000 and c=1.000 in their places: as the same ticket
+-- (`right-as-written`); or, where its first two lines are right and it has at most 4,096 bytes with the two, as wrong at
+-- the same line, whose number is higher by two there (`as-written`). Assumes nothing.
 use Prim.Native.Nat.{ℕ, _+_, _≤_}
-use mathlib.Core.Path.{_≡_, refl, sym, ap, _∙_}
+use mathlib.Core.Path.{_≡_, refl, sym, ap, ap₂, _∙_}
 use mathlib.Core.Bool.{Bool, true, false, cond, _&&_}
 use mathlib.Core.List.{List, [], _∷_, _++_}
 use mathlib.Core.Logic.{_↔_}
@@ -19,10 +19,12 @@ use Rattle.sheet.specs.declared.formula.Formula.{Formula}
 use Rattle.sheet.specs.declared.settings.Settings.{Settings}
 use Rattle.ticket.specs.Ticket.{formulaNamed, whiteNamed, orWrong, due, nothingMore, testLine, refLine}
 use Rattle.ticket.specs.Ticket.{spaceLine, tolLine, cLine, factorLines, blank, whiteLine, ticketOf}
+use Rattle.ticket.specs.Ticket.Grammar.{Place, withoutLAndC, Says, textOf}
+use Rattle.ticket.specs.Ticket.Grammar.Free.{named-is}
 use Rattle.ticket.specs.Ticket.Grammar.Lengths.{right-few}
 use Rattle.ticket.specs.Ticket.Grammar.Read.{due-line}
 use Rattle.ticket.specs.Ticket.Grammar.Right.{l-in-digits, c-in-digits}
-use Rattle.ticket.specs.Ticket.Grammar.Spelt.{wrong-right}
+use Rattle.ticket.specs.Ticket.Grammar.Spelt.{wrong-right, fromTol}
 use Rattle.ticket.specs.Ticket.Grammar.Values.{free-formula, free-white}
 use Rattle.ticket.specs.Ticket.Laws.{factors-missing, factors-given, ticket-of-short}
 use Rattle.ticket.specs.Ticket.Print.Laws.{formula-read, white-read}
@@ -114,3 +116,23 @@ module _ (f : Formula) (w : White) (r : List ℕ) where
       let more : length (written f w r) ≡ length (without f w r) + 16 = simp length-append (omega arith) in
       (λ e. as-written tol (omega (arith, right-few (without f w r) e)) ∙ ap twoMore e,
       λ e. right-of-two-more _ (sym (as-written tol (omega (arith, right-few (written f w r) e))) ∙ e))
+
+-- ---- every right ticket without the two lines is such a text
+
+pub record Short (t : Ticket) (s : List ℕ) : Type 0 where
+  pub rest : List ℕ
+  pub text : s ≡ without (t .settings .formula) (t .settings .white) rest
+  pub tol : startsWith (ascii "tol=") rest ≡ true
+
+module _ (t : Ticket) (value : Place → List ℕ) (said : (p : Place) → Says t p (value p)) where
+  pub short-is : Short t (textOf value withoutLAndC)
+  unfolding startsWith line
+  short-is =
+      let rest = textOf value fromTol in
+      record {
+        rest = rest;
+        text =
+            ap₂ (λ (u v : List ℕ). line (ascii "formula=") u ++ (line (ascii "white=") v ++ rest))
+            (named-is formulaName _ _ (said Place.formula)) (named-is whiteName _ _ (said Place.white));
+        tol = refl;
+      }

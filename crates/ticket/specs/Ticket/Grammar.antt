@@ -115,7 +115,7 @@ abbrev pub textOf : (value : Place → List ℕ) → List Place → List ℕ
 textOf value ps = joined (map (λ p. line (key p) (value p)) ps)
 
 -- the text consists of a right ticket's lines, and their values say the ticket t; where the lines l and c are missing,
--- it has 2.000 and 1.000
+-- t has 2.000 and 1.000
 pub record Consists (t : Ticket) (s : List ℕ) : Type 0 where
   pub value : Place → List ℕ
   pub said : (p : Place) → Says t p (value p)

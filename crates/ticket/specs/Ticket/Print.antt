@@ -15,7 +15,6 @@ use Rattle.ticket.specs.Ticket.{spaceName, spaceOf}
 use Rattle.ticket.specs.Ticket.Grammar.{Place, allPlaces, withoutLAndC, textOf}
 use Rattle.ticket.specs.declared.lines.Ticket.{Ticket}
 pub mod Laws
-pub mod Lengths
 
 -- ---- readings
 

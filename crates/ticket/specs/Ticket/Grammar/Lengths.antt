@@ -1,8 +1,8 @@
--- A right ticket is short: it has at most 148 bytes. Assumes nothing.
+-- A text of a ticket's lines is short: it has at most 148 bytes. Assumes nothing.
 use Prim.Native.Nat.{ℕ, _+_, _*_, _-_, _^_, _≤_}
 use mathlib.Core.Path.{_≡_, refl, ap}
 use mathlib.Core.Bool.{Bool, true, false}
-use mathlib.Core.List.{List, [], _∷_, _++_}
+use mathlib.Core.List.{List, [], _∷_}
 use mathlib.Core.Logic.{⊎-elim}
 use mathlib.Core.Option.{some, map-eq-some-iff}
 use lib.ListN.{length, drop, length-append}
@@ -107,12 +107,12 @@ says-few t Place.space v h = rw (named-is spaceName _ v h) (space-few (spaceOf (
 says-few t Place.ref v h = reads-few h
 says-few t Place.test v h = reads-few h
 
-module _ (t : Ticket) (value : Place → List ℕ) (said : (p : Place) → Says t p (value p)) where
-  abbrev atMost : List Place → ℕ
-  atMost [] = 0
-  atMost (p ∷ ps) = length (key p) + most p + 1 + atMost ps
+abbrev pub atMost : List Place → ℕ
+atMost [] = 0
+atMost (p ∷ ps) = length (key p) + most p + 1 + atMost ps
 
-  text-few : (ps : List Place) → length (textOf value ps) ≤ atMost ps
+module _ (t : Ticket) (value : Place → List ℕ) (said : (p : Place) → Says t p (value p)) where
+  pub text-few : (ps : List Place) → length (textOf value ps) ≤ atMost ps
   text-few [] = omega arith
   text-few (p ∷ ps) =
       omega (
