@@ -102,7 +102,8 @@ fn without_l_and_c() {
     // SCOPE 12.1, case 8: DL = 481743
     let report = WHOLE_REPORT.replace("l=1.000", "l=2.000");
     prints(&without(3, 4), &report.replace("0.9189", "0.4594"));
-    // SCOPE 12.1, cases 9 and 10: c counts as 1; by CIE94 besides 1.25 lighter, of which l takes half
+    // SCOPE 12.1, cases 9 and 10: c counts as 1. Where it is 1.25 lighter besides, l takes half of
+    // that, but not under CIELAB
     for (edits, figures) in [
         ("test=50 3 4", "DE=7.8370\nDL=0.0000\nDC=withheld"),
         (
@@ -110,8 +111,8 @@ fn without_l_and_c() {
             "DE=5.0389\nDL=0.6250\nDC=5.0000",
         ),
         (
-            "formula=CIELAB|test=50 3 4",
-            "DE=5.0000\nDL=0.0000\nDC=5.0000",
+            "formula=CIELAB|test=51.25 3 4",
+            "DE=5.1539\nDL=1.2500\nDC=5.0000",
         ),
     ] {
         let written = with(&format!("{edits}|l=2.000|c=1.000"));

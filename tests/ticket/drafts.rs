@@ -64,7 +64,7 @@ impl Random {
     }
 
     /// Gives a ticket that is accepted a tolerance.
-    pub fn settle(&mut self, draft: &mut Draft) {
+    fn settle(&mut self, draft: &mut Draft) {
         draft.tolerance = match accepted(&draft.ticket()) {
             Ok((standard, test)) => self.tolerance_near(standard.sheet(test).de),
             Err(_) => 100 + self.below(9_901),

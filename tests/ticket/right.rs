@@ -3,7 +3,7 @@
 use crate::aimed::one_way_apart;
 use crate::drafts::Draft;
 use crate::paper::report::report;
-use crate::paper::sheet::{verdict, Verdict, PLACES};
+use crate::paper::sheet::{verdict, Sheet, Verdict, PLACES};
 use crate::paper::standard::accepted;
 use crate::readings::{ONE, SIDE};
 use crate::records::Tickets;
@@ -51,19 +51,30 @@ pub fn tolerance_ends(tickets: &mut Tickets) {
     }
 }
 
-/// One pair without the lines l and c, with the same factors written out, and with others that are
-/// easily taken for them. The tolerance is mostly not far from the DE by one of these, so that the
-/// verdict often hangs on which it is.
+/// l and c where their lines are missing, and others that are easily taken for them.
+const WEIGHTINGS: [[u64; 2]; 4] = [[2_000, 1_000], [1_000; 2], [1_000, 2_000], [2_000; 2]];
+
+/// One pair without the lines l and c, and by each of these with them: any pair, or one that lies
+/// close, by CMC or CIE94. The tolerance is halfway between the DE by the first and by one of the
+/// others, so that the verdict hangs on which it is wherever the two lie apart.
 pub fn weightings(tickets: &mut Tickets) {
-    const WEIGHTINGS: [[u64; 2]; 4] = [[2_000, 1_000], [1_000; 2], [1_000, 2_000], [2_000; 2]];
-    for _ in 0..4_000 {
+    for step in 0..4_000 {
         let random = &mut tickets.random;
         let mut draft = random.ticket();
-        draft.formula = random.pick(&[0, 1, 2, 2]);
-        draft.factors = Some(random.pick(&WEIGHTINGS));
-        random.settle(&mut draft);
+        if step % 4 > 0 {
+            draft.formula = random.pick(&[1, 2, 2]);
+            draft.space = 1;
+            let reference = random.lab();
+            draft.reference = reference;
+            draft.test = reference.map(|number| number + random.within(3 * ONE));
+        }
+        let sums = [WEIGHTINGS[0], WEIGHTINGS[1 + step % 3]]
+            .map(|factors| judged(&draft, Some(factors)).map(|(_, sheet, _)| sheet.de));
+        if let [Some(house), Some(other)] = sums {
+            draft.tolerance = ((house + other) * 500 >> 20).clamp(100, 10_000) as u64;
+        }
         draft.factors = None;
-        no_worse_than_by_1_1(&draft);
+        by_2_1_and_by_1_1(&draft);
         tickets.draft(&draft);
         for factors in WEIGHTINGS {
             draft.factors = Some(factors);
@@ -72,25 +83,35 @@ pub fn weightings(tickets: &mut Tickets) {
     }
 }
 
+/// The verdict, the sheet and the report of a draft by these factors, or as it is without its lines.
+fn judged(draft: &Draft, factors: Option<[u64; 2]>) -> Option<(Verdict, Sheet, String)> {
+    let (standard, test) = accepted(&Draft { factors, ..*draft }.ticket()).ok()?;
+    let sheet = standard.sheet(test);
+    let verdict = verdict(PLACES, sheet.de, standard.tolerance.into());
+    let report = String::from_utf8(report(&standard, test)).expect("a text");
+    Some((verdict, sheet, report))
+}
+
 /// SCOPE 6.4: by 2:1 DE is not larger than by 1:1, what passes by 1:1 passes, and what fails fails by
-/// 1:1. Of the report only l, DE, DL and the verdict are others, and it is not longer.
-fn no_worse_than_by_1_1(draft: &Draft) {
-    let judged = |factors| {
-        let ticket = Draft { factors, ..*draft }.ticket();
-        let (standard, test) = accepted(&ticket).ok()?;
-        let de = standard.sheet(test).de;
-        let verdict = verdict(PLACES, de, ticket.tolerance.into());
-        let report = String::from_utf8(report(&standard, test)).expect("a text");
-        Some((de, verdict, report))
-    };
-    if let [Some(house), Some(equal)] = [None, Some([1_000; 2])].map(judged) {
-        assert!(house.0 <= equal.0);
-        assert!(equal.1 != Verdict::Pass || house.1 == Verdict::Pass);
-        assert!(house.1 != Verdict::Fail || equal.1 == Verdict::Fail);
-        assert!(house.2.len() <= equal.2.len());
-        for (of_house, of_equal) in house.2.lines().zip(equal.2.lines()) {
-            let moves = ["l=", "DE=", "DL=", "verdict="].map(|key| of_house.starts_with(key));
-            assert!(of_house == of_equal || moves.contains(&true), "{of_house}");
+/// 1:1. DL is half of it, rounded down, but under CIELAB the same; of the report only l, DE, DL and the
+/// verdict are others, under CIELAB only l; and it is not longer.
+fn by_2_1_and_by_1_1(draft: &Draft) {
+    let both = [None, Some([1_000; 2])].map(|factors| judged(draft, factors));
+    assert_eq!(both[0].is_some(), both[1].is_some());
+    if let [Some((house, new, report)), Some((equal, old, before))] = both {
+        let cielab = report.starts_with("formula=CIELAB\n");
+        assert!(new.de <= old.de);
+        assert!(equal != Verdict::Pass || house == Verdict::Pass);
+        assert!(house != Verdict::Fail || equal == Verdict::Fail);
+        assert_eq!(new.dl.abs(), old.dl.abs() / if cielab { 1 } else { 2 });
+        assert!(report.len() <= before.len());
+        let moving: &[&str] = if cielab {
+            &["l="]
+        } else {
+            &["l=", "DE=", "DL=", "verdict="]
+        };
+        for (line, old_line) in report.lines().zip(before.lines()) {
+            assert!(line == old_line || moving.iter().any(|key| line.starts_with(key)));
         }
     }
 }

@@ -63,7 +63,9 @@ impl Seen {
             let text = String::from_utf8_lossy(text);
             self.forms(&text);
             self.ticket(&ticket);
-            if !text.contains("\nl=") {
+            let is_without = !text.contains("\nl=");
+            self.note("without l and c", is_without);
+            if is_without {
                 self.without_l_and_c(&ticket);
             }
         }
@@ -78,7 +80,6 @@ impl Seen {
         };
         let own = verdict_by([ticket.l, ticket.c]);
         self.notes([
-            ("without l and c", true),
             ("another verdict by 1:1", verdict_by([1_000; 2]) != own),
             ("another verdict by 1:2", verdict_by([1_000, 2_000]) != own),
             ("another verdict by 2:2", verdict_by([2_000; 2]) != own),
