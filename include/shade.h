@@ -46,7 +46,7 @@ extern "C" {
  *     SHADE_VERSION is 100 * MAJOR + MINOR, a number for #if: 1.5 is 105, and SHADE_VERSION >= 105 asks for 1.5 or
  *     later. It is this header's; shade_version() answers that of the library that the host was linked with. Where the
  *     two differ in the major number, the host was compiled for other calls, and should not go on. A higher minor
- *     number: calls were added, or a report can be another one for the same pair. Since 1.2 its figures are the
+ *     number: calls were added, or a report can be another one for the same call. Since 1.2 its figures are the
  *     nearest; since 1.3 an achromatic test specimen withholds as an achromatic reference does; since 1.5 a ticket
  *     without l and c is judged by 2:1. Since 1.4 there are the sorts. */
 #define SHADE_VERSION_MAJOR 1
@@ -197,9 +197,9 @@ static inline size_t shade_report_length(const uint8_t *room, size_t len)
  *         ref=52.5 10.25 -7                    three numbers, one space between; each perhaps a minus, 1 to 3 digits,
  *         test=50.75 11 -7.25                  perhaps a point and 1 to 6 digits
  *
- *     The lines l and c may both be left out, and not one alone: l is 2.000 then and c is 1.000, for whether a match
- *     will do on textiles (BS 6923). Before version 1.5 each was 1.000; a ticket that is to ask that, for how large a
- *     difference looks, writes l=1.000 and c=1.000. The report says which l and c it goes by.
+ *     The lines l and c may both be left out, and not one alone. Then l is 2.000 and c is 1.000, by which BS 6923 asks
+ *     whether a match will do on textiles. To ask how large a difference looks, as such a ticket did before version
+ *     1.5, write l=1.000 and c=1.000. The report says which l and c it goes by.
  *
  *     Capitals count, and there is no room for a CR, a tab, a plus or a second space. */
 #define SHADE_TICKET_BYTES 4096
