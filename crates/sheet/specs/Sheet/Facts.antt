@@ -162,10 +162,10 @@ pub record Divisors (n : ℕ) (f : Formula) (l c : ℕ) (R : Lab) : Type 0 where
   pub DC : 0 < factorUnder f c * semiAxes n f R .SC
   pub DH : 0 < semiAxes n f R .SH
 
-factorUnder-pos : (f : Formula) {l : ℕ} → Factor l → 0 < factorUnder f l
+pub factorUnder-pos : (f : Formula) {l : ℕ} → 0 < l → 0 < factorUnder f l
 factorUnder-pos CIELAB h = omega arith
-factorUnder-pos CIE94 h = omega arith
-factorUnder-pos CMC h = omega arith
+factorUnder-pos CIE94 h = h
+factorUnder-pos CMC h = h
 
 pub divisors : (n : ℕ) → 20 ≤ n → (f : Formula) {l c : ℕ} → Factor l → Factor c → (R : Lab) → Divisors n f l c R
 divisors n from20 f hl hc R =
@@ -178,8 +178,8 @@ divisors n from20 f hl hc R =
       F = hueW-pos n (hueQ n (R .a) (R .b));
       T = λ some. omega (arith, chroma-pos (R .a) (R .b) some);
       P-and-SH = u;
-      DL = mul-pos (factorUnder-pos f hl) (omega arith);
-      DC = mul-pos (factorUnder-pos f hc) (omega arith);
+      DL = mul-pos (factorUnder-pos f (omega (arith, hl .low))) (omega arith);
+      DC = mul-pos (factorUnder-pos f (omega (arith, hc .low))) (omega arith);
       DH = omega arith;
     }
 
