@@ -1,6 +1,6 @@
--- A TICKET WITHOUT THE LINES L AND C is read as the one that has l=2.000 and c=1.000 in their places: as the same ticket
--- (`right-as-written`); or, where its first two lines are right and it has at most 4,096 bytes with the two, as wrong at
--- the same line, whose number is higher by two there (`as-written`). Assumes nothing.
+-- A TICKET WITHOUT THE LINES L AND C is read as the one that has l=2.000 and c=1.000 in their places: as the same
+-- ticket (`right-as-written`); or, where its first two lines are right and it has at most 4,096 bytes with the two, as
+-- wrong at the same line, whose number is higher by two there (`as-written`). Assumes nothing.
 use Prim.Native.Nat.{ℕ, _+_, _≤_}
 use mathlib.Core.Path.{_≡_, refl, sym, ap, ap₂, _∙_}
 use mathlib.Core.Bool.{Bool, true, false, cond, _&&_}
@@ -112,10 +112,16 @@ module _ (f : Formula) (w : White) (r : List ℕ) where
       startsWith (ascii "tol=") r ≡ true → {t : Ticket}
       → (ticketOf (without f w r) ≡ Right t) ↔ (ticketOf (written f w r) ≡ Right t)
   unfolding line
-  right-as-written tol =
-      let more : length (written f w r) ≡ length (without f w r) + 16 = simp length-append (omega arith) in
-      (λ e. as-written tol (omega (arith, right-few (without f w r) e)) ∙ ap twoMore e,
-      λ e. right-of-two-more _ (sym (as-written tol (omega (arith, right-few (written f w r) e))) ∙ e))
+  right-as-written tol {t} = (there, back)
+    where
+      more : length (written f w r) ≡ length (without f w r) + 16
+      more = simp length-append (omega arith)
+
+      there : ticketOf (without f w r) ≡ Right t → ticketOf (written f w r) ≡ Right t
+      there e = as-written tol (omega (arith, more, right-few (without f w r) e)) ∙ ap twoMore e
+
+      back : ticketOf (written f w r) ≡ Right t → ticketOf (without f w r) ≡ Right t
+      back e = right-of-two-more _ (sym (as-written tol (omega (arith, right-few (written f w r) e))) ∙ e)
 
 -- ---- every right ticket without the two lines is such a text
 

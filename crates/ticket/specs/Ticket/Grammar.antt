@@ -18,6 +18,7 @@ use Rattle.colour.specs.declared.placed.Written.{Written}
 use Rattle.ticket.specs.Ticket.{formulaNamed, whiteNamed, spaceNamed, spaceOf, inSpace, missingL, missingC}
 use Rattle.ticket.specs.declared.value.Space.{Space}
 use Rattle.ticket.specs.declared.lines.Ticket.{Ticket}
+pub mod Parted
 pub mod Free
 pub mod Values
 pub mod Tells

@@ -1,17 +1,13 @@
 -- A text of a ticket's lines is short: it has at most 148 bytes. Assumes nothing.
-use Prim.Native.Nat.{ℕ, _+_, _*_, _-_, _^_, _≤_}
-use mathlib.Core.Path.{_≡_, refl, ap}
-use mathlib.Core.Bool.{Bool, true, false}
+use Prim.Native.Nat.{ℕ, _+_, _≤_}
+use mathlib.Core.Path.{_≡_}
 use mathlib.Core.List.{List, [], _∷_}
 use mathlib.Core.Logic.{⊎-elim}
-use mathlib.Core.Option.{some, map-eq-some-iff}
-use lib.ListN.{length, drop, length-append}
+use mathlib.Core.Option.{some}
+use lib.ListN.{length, length-append}
 use native.Mathlib.Omega.{arith}
-use Rattle.text.specs.Ascii.{ascii}
-use Rattle.text.specs.Bytes.{has, before, after, startsWith}
-use Rattle.text.specs.Bytes.Parts.{parted, before-all, starts-is}
 use Rattle.text.specs.Names.{formulaName, whiteName}
-use Rattle.text.specs.Number.{digitsOf, fractionOf, decimalOf, decimalBelow, signedOf}
+use Rattle.text.specs.Number.{decimalOf, signedOf}
 use Rattle.text.specs.Number.Laws.{digits-lt}
 use Rattle.text.specs.Put.{line}
 use Rattle.text.specs.Put.Laws.{line-length}
@@ -23,7 +19,9 @@ use Rattle.sheet.specs.declared.formula.Formula.{Formula}
 use Rattle.sheet.specs.declared.formula.Formula.the-variants.{CIELAB, CIE94, CMC}
 use Rattle.ticket.specs.Ticket.{spaceName, spaceOf, ticketOf}
 use Rattle.ticket.specs.Ticket.Grammar.{Place, key, allPlaces, withoutLAndC, Reads, Says, textOf, Consists}
-use Rattle.ticket.specs.Ticket.Grammar.Free.{both-some, named-is}
+use Rattle.ticket.specs.Ticket.Grammar.Free.{named-is}
+use Rattle.ticket.specs.Ticket.Grammar.Parted.{DecimalParts, no-point, point, decimal-parts}
+use Rattle.ticket.specs.Ticket.Grammar.Parted.{SignedParts, no-minus, minus, signed-parts}
 use Rattle.ticket.specs.Ticket.Grammar.Right.{right-exactly}
 use Rattle.ticket.specs.declared.value.Space.{Space}
 use Rattle.ticket.specs.declared.value.Space.the-variants.{Xyz, Lab}
@@ -32,34 +30,23 @@ use Rattle.ticket.specs.declared.lines.Parsed.the-variants.{Right}
 
 -- ---- numbers
 
-fraction-few :
-    (whole places : ℕ) (s : List ℕ) (e : Bool) {w : ℕ} → has 46 s ≡ e → length (before 46 s) ≤ whole
-    → fractionOf places s ≡ some w → length s ≤ whole + 1 + places
-unfolding fractionOf
-fraction-few whole places s true e k h =
-    let t = after 46 s in
-    let g = map-eq-some-iff (λ d. d * 10 ^ (places - length t)) (digitsOf places t) .0 (rw e at h) in
-    omega (arith, digits-lt places t (g .1) .few, ap length (parted 46 s e), length-append (before 46 s) (46 ∷ t))
-fraction-few whole places s false e k h = omega (arith, ap length (before-all 46 s e))
-
 decimal-few :
     (whole places : ℕ) (s : List ℕ) {w : ℕ} → decimalOf whole places s ≡ some w → length s ≤ whole + 1 + places
-unfolding decimalOf
-decimal-few whole places s h =
-    let g = both-some (λ v d. v * 10 ^ places + d) (digitsOf whole (before 46 s)) (fractionOf places s) h in
-    fraction-few whole places s (has 46 s) refl (digits-lt whole (before 46 s) (g .2) .few) (g .3)
-
-signed-by : (s : List ℕ) (e : Bool) {x : Decimal} → startsWith (ascii "-") s ≡ e → signedOf s ≡ some x → length s ≤ 11
-unfolding signedOf
-signed-by s true e h =
-    let g = map-eq-some-iff (decimalBelow true) (decimalOf 3 6 (drop 1 s)) .0 (rw e at h) in
-    omega (arith, ap length (starts-is (ascii "-") s e), decimal-few 3 6 (drop 1 s) (g .1))
-signed-by s false e h =
-    let g = map-eq-some-iff (decimalBelow false) (decimalOf 3 6 s) .0 (rw e at h) in
-    omega (arith, decimal-few 3 6 s (g .1))
+decimal-few whole places s h = go (decimal-parts whole places s h)
+  where
+    go : DecimalParts whole places s → length s ≤ whole + 1 + places
+    go (no-point e) = omega (arith, digits-lt whole s e .few)
+    go (point u t e hu ht) =
+        let before = digits-lt whole u hu .few in
+        let after = digits-lt places t ht .few in
+        rw e (omega (arith, length-append u (46 ∷ t)))
 
 signed-few : (s : List ℕ) {x : Decimal} → signedOf s ≡ some x → length s ≤ 11
-signed-few s h = signed-by s (startsWith (ascii "-") s) refl h
+signed-few s h = go (signed-parts s h)
+  where
+    go : SignedParts s → length s ≤ 11
+    go (no-minus e) = omega (arith, decimal-few 3 6 s e)
+    go (minus t e ht) = rw e (omega (arith, decimal-few 3 6 t ht))
 
 reads-few : {p : Space} {v : List ℕ} {r : Written} → Reads p v r → length v ≤ 35
 reads-few k =

@@ -19,7 +19,8 @@ use Rattle.sheet.specs.declared.formula.Formula.{Formula}
 use Rattle.sheet.specs.declared.formula.Formula.the-variants.{CIELAB, CIE94, CMC}
 use Rattle.ticket.specs.Ticket.{spaceName, spaceOf, inSpace, readingOf}
 use Rattle.ticket.specs.Ticket.Grammar.{Place, Reads, Says}
-use Rattle.ticket.specs.Ticket.Grammar.Free.{both-some, decimal-free, signed-free, named-is}
+use Rattle.ticket.specs.Ticket.Grammar.Free.{decimal-free, signed-free, named-is}
+use Rattle.ticket.specs.Ticket.Grammar.Parted.{both-some}
 use Rattle.ticket.specs.declared.value.Space.{Space}
 use Rattle.ticket.specs.declared.value.Space.the-variants.{Xyz, Lab}
 use Rattle.ticket.specs.declared.lines.Ticket.{Ticket}
