@@ -68,9 +68,9 @@ pub fn weightings(tickets: &mut Tickets) {
             draft.reference = reference;
             draft.test = reference.map(|number| number + random.within(3 * ONE));
         }
-        let sums = [WEIGHTINGS[0], WEIGHTINGS[1 + step % 3]]
+        let totals = [WEIGHTINGS[0], WEIGHTINGS[1 + step % 3]]
             .map(|factors| judged(&draft, Some(factors)).map(|(_, sheet, _)| sheet.de));
-        if let [Some(house), Some(other)] = sums {
+        if let [Some(house), Some(other)] = totals {
             draft.tolerance = ((house + other) * 500 >> 20).clamp(100, 10_000) as u64;
         }
         draft.factors = None;
