@@ -3,9 +3,9 @@
 -- digit (`found-first`); one digit more (`found-zero`, `found-one`); the end (`found-all`). Assumes nothing.
 use mathlib.Core.Path.{_≡_, refl, sym, ap, _∙_}
 use Prim.Native.Nat.{ℕ, suc, _+_, _-_, _*_, _/_, _%_, _^_, _≤_, _<_}
-use native.Mathlib.Nat.{pow-zero, mul-zero, mul-suc, mul-assoc, mul-le-mul-left, mul-div-mul-right, div-one}
+use native.Mathlib.Nat.{pow-zero, mul-zero, mul-one, mul-suc, mul-assoc, mul-le-mul-left, mul-div-mul-right, div-one}
 use native.Mathlib.Nat.{div-add-mod', add-mul-mod-self-right, mod-lt, mul-div-le, lt-mul-div-succ, le-trans}
-use native.Mathlib.Nat.{lt-of-lt-of-le}
+use native.Mathlib.Nat.{mul-div-right, mul-lt-mul-of-pos-left, lt-of-lt-of-le}
 use native.Mathlib.Omega.{arith}
 use lib.Count.{leadingZeros, leading-top}
 use lib.Pow.{pow-add, pow-mono, pow-pos, shl-exact, shr-lt, shr-le, shr-shr, split, field}
@@ -17,13 +17,15 @@ use Rattle.rounding.specs.Fraction.{le-div}
 
 -- r is the root of n, and rest is what is left of n
 pub record Rooted (e n r rest : ℕ) : Type 0 where
-  pub digits : r ≡ rootOf e n
+  pub root : r ≡ rootOf e n
   pub remainder : r ^ e + rest ≡ n
 
--- the digits found so far are the root of the leading part of x, and rest is what is left of that part; what stands
--- behind it is held at the top of a word
-pub record Found (e x left root rest down : ℕ) : Type 0 where
-  pub leading : Rooted e (x / 2 ^ (e * left)) root rest
+-- the digits found so far are the root of the leading part of x, and rest is what is left of that part. root holds the
+-- digits times z, with 0s behind them; what stands behind the leading part is held at the top of a word
+pub record Found (z e x left root rest down : ℕ) : Type 0 where
+  pub digits : ℕ
+  pub held : root ≡ z * digits
+  pub leading : Rooted e (x / 2 ^ (e * left)) digits rest
   pub behind : down ≡ x * 2 ^ (64 - e * left) % 2 ^ 64
   pub within : e * left < 64
 
@@ -42,14 +44,14 @@ module _ {e r rest : ℕ} (n : ℕ) (some : 0 < e) (h : Rooted e (n / 2 ^ e) r r
       twice = omega arith
 
       above : n / 2 ^ e < (r + 1) ^ e
-      above = rw (h .digits) (root-law e (n / 2 ^ e) some .high)
+      above = rw (h .root) (root-law e (n / 2 ^ e) some .high)
 
   -- behind the digits r a 1 takes m more than a 0
   module _ (m : ℕ) (takes : (2 * r + 1) ^ e ≡ (2 * r) ^ e + m) where
     digit-zero : rest * 2 ^ e + n % 2 ^ e < m → Rooted e n (2 * r) (rest * 2 ^ e + n % 2 ^ e)
     digit-zero less =
         record {
-          digits =
+          root =
               root-unique e n (2 * r) some
               (record { low = omega (arith, brought); high = rw takes (omega (arith, brought)) });
           remainder = brought;
@@ -58,7 +60,7 @@ module _ {e r rest : ℕ} (n : ℕ) (some : 0 < e) (h : Rooted e (n / 2 ^ e) r r
     digit-one : m ≤ rest * 2 ^ e + n % 2 ^ e → Rooted e n (2 * r + 1) (rest * 2 ^ e + n % 2 ^ e - m)
     digit-one enough =
         record {
-          digits =
+          root =
               root-unique e n (2 * r + 1) some
               (record { low = rw takes (omega (arith, brought)); high = below-two });
           remainder = rw takes (omega (arith, brought));
@@ -103,8 +105,8 @@ module _ {places : ℕ} (e x less : ℕ) (is : places ≡ less + e) (within : pl
 
 -- ---- a turn, as the code makes it
 
-module _ {e x left root rest down : ℕ}
-    (some : 0 < e) (fits : x < 2 ^ 64) (more : 0 < left) (h : Found e x left root rest down) where
+module _ {z e x left root rest down : ℕ}
+    (some : 0 < e) (fits : x < 2 ^ 64) (more : 0 < left) (h : Found z e x left root rest down) where
   abbrev less : ℕ
   less = e * (left - 1)
 
@@ -117,7 +119,7 @@ module _ {e x left root rest down : ℕ}
       one-more : left ≡ suc (left - 1)
       one-more = omega arith
 
-  rooted : Rooted e (lead / 2 ^ e) root rest
+  rooted : Rooted e (lead / 2 ^ e) (h .digits) rest
   rooted = rw (lead-splits e x less one-group (h .within)) at (h .leading)
 
   before-lt : x / 2 ^ (e * left) < 2 ^ (64 - e)
@@ -126,12 +128,15 @@ module _ {e x left root rest down : ℕ}
       word : 64 - e * left + e * left ≡ 64
       word = omega (arith, h .within)
 
-  -- the digits found so far have at most so many places
-  pub root-lt-pow : (most : ℕ) → 64 ≤ e * most + e → root < 2 ^ most
-  root-lt-pow most enough =
-      rw (h .leading .digits)
+  -- so many places are enough for the digits found so far
+  digits-lt : (most : ℕ) → 64 ≤ e * most + e → h .digits < 2 ^ most
+  digits-lt most enough =
+      rw (h .leading .root)
       (root-lt e (x / 2 ^ (e * left)) (2 ^ most) some
       (rw pow-mul (lt-of-lt-of-le before-lt (pow-mono (omega arith)))))
+
+  pub held-lt : (most : ℕ) → 64 ≤ e * most + e → 0 < z → root < z * 2 ^ most
+  held-lt most enough some = rw (h .held) (mul-lt-mul-of-pos-left (digits-lt most enough) some)
 
   -- nothing of the rest is shifted out
   rest-is : rest * 2 ^ e % 2 ^ 64 + down / 2 ^ (64 - e) ≡ rest * 2 ^ e + lead % 2 ^ e
@@ -146,24 +151,30 @@ module _ {e x left root rest down : ℕ}
   pub rest-fits : rest * 2 ^ e % 2 ^ 64 + down / 2 ^ (64 - e) < 2 ^ 64
   rest-fits = rw rest-is (omega (arith, brought lead some rooted, shr-le x less))
 
-  next : {r s : ℕ} → Rooted e lead r s → Found e x (left - 1) r s (down * 2 ^ e % 2 ^ 64)
-  next leading =
+  next : {r s : ℕ} (d : ℕ) → r ≡ z * d → Rooted e lead d s → Found z e x (left - 1) r s (down * 2 ^ e % 2 ^ 64)
+  next d held leading =
       record {
+        digits = d;
+        held = held;
         leading = leading;
         behind = rw (h .behind) (behind-moves e x less one-group (h .within));
         within = omega (arith, h .within, one-group);
       }
 
-  module _ (m : ℕ) (takes : (2 * root + 1) ^ e ≡ (2 * root) ^ e + m) where
+  module _ (m : ℕ) (takes : (2 * h .digits + 1) ^ e ≡ (2 * h .digits) ^ e + m) where
     pub found-zero :
         rest * 2 ^ e % 2 ^ 64 + down / 2 ^ (64 - e) < m →
-        Found e x (left - 1) (2 * root) (rest * 2 ^ e % 2 ^ 64 + down / 2 ^ (64 - e)) (down * 2 ^ e % 2 ^ 64)
-    found-zero short = rw rest-is (next (digit-zero lead some rooted m takes (rw rest-is at short)))
+        Found z e x (left - 1) (2 * root) (rest * 2 ^ e % 2 ^ 64 + down / 2 ^ (64 - e)) (down * 2 ^ e % 2 ^ 64)
+    found-zero short =
+        rw rest-is
+        (next (2 * h .digits) (omega (arith, h .held)) (digit-zero lead some rooted m takes (rw rest-is at short)))
 
     pub found-one :
         m ≤ rest * 2 ^ e % 2 ^ 64 + down / 2 ^ (64 - e) →
-        Found e x (left - 1) (2 * root + 1) (rest * 2 ^ e % 2 ^ 64 + down / 2 ^ (64 - e) - m) (down * 2 ^ e % 2 ^ 64)
-    found-one enough = rw rest-is (next (digit-one lead some rooted m takes (rw rest-is at enough)))
+        Found z e x (left - 1) (2 * root + z) (rest * 2 ^ e % 2 ^ 64 + down / 2 ^ (64 - e) - m) (down * 2 ^ e % 2 ^ 64)
+    found-one enough =
+        rw rest-is
+        (next (2 * h .digits + 1) (omega (arith, h .held)) (digit-one lead some rooted m takes (rw rest-is at enough)))
 
 -- ---- the first digit, and the end
 
@@ -204,12 +215,14 @@ module _ {e x left : ℕ} (some : 0 < e) (h : First e x left) where
   group-some = le-div x (2 ^ (e * left)) 1 (pow-pos (e * left)) (omega (arith, h .low))
 
   -- so the first digit is 1
-  pub found-first : Found e x left 1 (x / 2 ^ (e * left) - 1) (x * 2 ^ (64 - e * left) % 2 ^ 64)
-  found-first =
+  pub found-first : {z : ℕ} → Found z e x left z (x / 2 ^ (e * left) - 1) (x * 2 ^ (64 - e * left) % 2 ^ 64)
+  found-first {z} =
       record {
+        digits = 1;
+        held = sym (mul-one z);
         leading =
             record {
-              digits = root-unique e (x / 2 ^ (e * left)) 1 some one;
+              root = root-unique e (x / 2 ^ (e * left)) 1 some one;
               remainder = rw one-pow (omega (arith, group-some));
             };
         behind = refl;
@@ -220,8 +233,12 @@ module _ {e x left : ℕ} (some : 0 < e) (h : First e x left) where
       one = record { low = rw one-pow group-some; high = shr-lt e (e * left) (h .high) }
 
 -- with no group left all of x is the leading part
-pub found-all : {e x left root rest down : ℕ} → Found e x left root rest down → left ≤ 0 → root ≡ rootOf e x
-found-all {e} {x} {left} h none = h .leading .digits ∙ rw (ended, mul-zero, pow-zero, div-one)
+pub found-all : {z e x left root rest down : ℕ} →
+    Found z e x left root rest down → left ≤ 0 → 0 < z → root / z ≡ rootOf e x
+found-all {z} {e} {x} {left} h none some = rw (h .held, mul-div-right (h .digits) some) (h .leading .root ∙ whole)
   where
     ended : left ≡ 0
     ended = omega arith
+
+    whole : rootOf e (x / 2 ^ (e * left)) ≡ rootOf e x
+    whole = rw (ended, mul-zero, pow-zero, div-one)
