@@ -4,10 +4,12 @@ use crate::cases::Cases;
 use crate::random::Random;
 
 pub fn root_cases(cases: &mut Cases, random: &mut Random) {
-    for x in (0..300).chain(u64::MAX - 2..=u64::MAX) {
+    // whatever the first group is, and the digits behind it
+    for x in (0..1 << 16).chain(u64::MAX - 2..=u64::MAX) {
         cases.square(x);
         cases.cube(x);
     }
+    ends_of_widths(cases);
     for step in 0..6_600 {
         let square = random.of_width(1 + step % 32).pow(2);
         (square - 1..=square + 1).for_each(|x| cases.square(x));
@@ -23,6 +25,30 @@ pub fn root_cases(cases: &mut Cases, random: &mut Random) {
     let (square, cube) = (u64::from(u32::MAX).pow(2), 2_642_245_u64.pow(3));
     (square - 1..=square + 1).for_each(|x| cases.square(x));
     (cube - 1..=cube + 1).for_each(|x| cases.cube(x));
+}
+
+/// Where a number, or its root, gets one more binary digit; and roots whose digits are all 1, or 1 and 0 in turn.
+fn ends_of_widths(cases: &mut Cases) {
+    for width in 1..64 {
+        let power = 1_u64 << width;
+        for x in power - 1..=power + 1 {
+            cases.square(x);
+            cases.cube(x);
+        }
+    }
+    for width in 1..=32 {
+        let all = u64::from(u32::MAX) >> (32 - width);
+        for root in [1 << (width - 1), all, 0xaaaa_aaaa >> (32 - width), all / 3] {
+            around(root, 2, |x| cases.square(x));
+            around(root.min(2_642_245), 3, |x| cases.cube(x));
+        }
+    }
+}
+
+/// The power of a root, and the numbers just below and above it.
+fn around(root: u64, exponent: u32, case: impl FnMut(u64)) {
+    let power = root.pow(exponent);
+    (power.saturating_sub(1)..=power + 1).for_each(case);
 }
 
 pub fn value_cases(cases: &mut Cases, random: &mut Random) {
