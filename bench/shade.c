@@ -1,4 +1,5 @@
 /* The calls of libshade.a. */
+#include "../tests/shared/walk.h"
 #include "pairs.h"
 #include "shade.h"
 
@@ -80,7 +81,27 @@ static const struct row rows[] = {
     {0, 0},
 };
 
+/* How many divisions of whole numbers each call makes, the mean over the pairs. */
+static int divisions(void)
+{
+    int refused = 0;
+    make_pairs();
+    make_tickets();
+    for (int i = 0; i < PAIRS; i++)
+        refused |= load(i);
+    for (const struct row *row = rows; row->name != 0; row++) {
+        walk_on();
+        for (int i = 0; i < PAIRS; i++)
+            refused |= row->call(i);
+        walk_off();
+        printf("%-10s %5.1f divisions\n", row->name, (double)walked.divide / PAIRS);
+    }
+    return refused != 0;
+}
+
 int main(int count, char **words)
 {
+    if (count == 2 && strcmp(words[1], "divisions") == 0)
+        return divisions();
     return run(rows, load, count, words);
 }
