@@ -94,6 +94,7 @@ static int divisions(void)
         for (int i = 0; i < PAIRS; i++)
             refused |= row->call(i);
         walk_off();
+        refused |= walked.all == 0;
         printf("%-10s %5.1f divisions\n", row->name, (double)walked.divide / PAIRS);
     }
     return refused != 0;

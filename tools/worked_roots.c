@@ -17,6 +17,7 @@ enum { Z = 81, WHITE = 8942 };
 struct root {
     int group;
     uint64_t (*of)(uint64_t);
+    const char *sign;
 };
 
 static uint64_t power(int e, uint64_t r) { return e == 2 ? r * r : r * r * r; }
@@ -34,20 +35,32 @@ static int row(const struct root *root, uint64_t before, uint64_t lead)
 {
     int e = root->group;
     uint64_t group = lead - (before << e), r = root->of(before), digits = root->of(lead), digit = digits & 1;
-    uint64_t down = ((before - power(e, r)) << e) + group, rest = lead - power(e, digits);
+    uint64_t there = ((before - power(e, r)) << e) + group, rest = lead - power(e, digits);
     printf("| ");
     print_group(e, group);
-    printf(" | %lu | %lu | %lu | %lu | %lu |\n", down, takes(e, r), digit, rest, digits);
-    return digit == (takes(e, r) <= down) && digits == 2 * r + digit && rest == down - digit * takes(e, r);
+    printf(" | %lu | %lu | %lu | %lu | %lu |\n", there, takes(e, r), digit, rest, digits);
+    return digit == (takes(e, r) <= there) && digits == 2 * r + digit && rest == there - digit * takes(e, r);
 }
 
-static int table(const struct root *root, const char *what, uint64_t x)
+/* What the page says of the number beside the table: its groups, and a row that is checked by itself. */
+static void texts(const struct root *root, uint64_t x, int left, int checked)
+{
+    uint64_t lead = x >> root->group * (left + 1 - checked), r = root->of(lead);
+    printf("text: %lu, in binary", x);
+    for (; left >= 0; left--) {
+        printf(" ");
+        print_group(root->group, x >> root->group * left);
+    }
+    printf(":\ntext: %lu = %lu%s + %lu.\n", lead, r, root->sign, lead - power(root->group, r));
+}
+
+static int table(const struct root *root, uint64_t x, int checked)
 {
     int left = 0, rule = 1;
     while (x >> root->group * (left + 1))
         left++;
-    printf("%s of %lu\n\n| group | brought down | a 1 takes | digit | rest | root so far |\n", what, x);
-    printf("|---|---|---|---|---|---|\n");
+    texts(root, x, left, checked);
+    printf("| group | what is there | a 1 takes | digit | rest | root so far |\n|---|---|---|---|---|---|\n");
     for (uint64_t before = 0; left >= 0; left--) {
         uint64_t lead = x >> root->group * left;
         rule &= row(root, before, lead);
@@ -59,10 +72,10 @@ static int table(const struct root *root, const char *what, uint64_t x)
 
 int main(void)
 {
-    const struct root square = {2, probe_square_root}, cube = {3, probe_cube_root};
+    const struct root square = {2, probe_square_root, "²"}, cube = {3, probe_cube_root, "³"};
     /* 2^60 Z / WHITE, rounded down, in two steps */
     uint64_t high = ((uint64_t)Z << 56) / WHITE, over = ((uint64_t)Z << 56) % WHITE;
-    int rule = table(&square, "square root", A * A + B * B);
-    rule &= table(&cube, "cube root", (high << 4) + (over << 4) / WHITE);
+    int rule = table(&square, A * A + B * B, 6);
+    rule &= table(&cube, (high << 4) + (over << 4) / WHITE, 4);
     return !rule;
 }

@@ -40,7 +40,9 @@ fn ends_of_widths(cases: &mut Cases) {
         let all = u64::from(u32::MAX) >> (32 - width);
         for root in [1 << (width - 1), all, 0xaaaa_aaaa >> (32 - width), all / 3] {
             around(root, 2, |x| cases.square(x));
-            around(root.min(2_642_245), 3, |x| cases.cube(x));
+            if root <= 2_642_245 {
+                around(root, 3, |x| cases.cube(x));
+            }
         }
     }
 }

@@ -1,7 +1,7 @@
 /* Walks through the two roots of libprobe.a, one machine instruction at a time. None may divide or be one of floating
  * point, and there may be no more of them than the digits of the root account for. A root that starts at bit 63
- * whatever the number, which is as right, takes too many. It and a division are walked through too, to see that both
- * show.
+ * whatever the number, which is as right, takes too many. It, a division and a guess by floating point are walked
+ * through too, to see that they show.
  *
  * Usage: steps
  *
@@ -18,14 +18,15 @@ struct root {
     uint64_t a_digit;
 };
 
-enum { FIRST = 40, SHOWN = 10 };
-static const struct root square = {"square root", probe_square_root, 11}, cube = {"cube root", probe_cube_root, 15};
+enum { FIRST = 16, SHOWN = 10 };
+static const struct root square = {"square root", probe_square_root, 11}, cube = {"cube root", probe_cube_root, 12};
 
 static uint64_t walks, differences;
 
 static __attribute__((noinline)) uint64_t itself(uint64_t x) { return x; }
 
-static uint64_t seen(uint64_t (*root)(uint64_t), uint64_t x)
+/* A compiler cannot know which root it is, and leaves no call out. */
+static uint64_t seen(uint64_t (*volatile root)(uint64_t), uint64_t x)
 {
     walk_on();
     uint64_t r = root(x);
@@ -55,7 +56,7 @@ static uint64_t digits(uint64_t r)
 static int is_well(const struct root *root, uint64_t x)
 {
     uint64_t taken = walk(root, x), most = FIRST + root->a_digit * digits(root->of(x));
-    return taken <= most && !walked.divide && !walked.floating;
+    return taken <= most && !walked.divide && !walked.foreign;
 }
 
 static void look(const struct root *root, uint64_t x)
@@ -64,7 +65,7 @@ static void look(const struct root *root, uint64_t x)
         return;
     uint64_t taken = walk(root, x);
     printf("differs: %s of %lu: %lu divisions, %lu of floating point, %lu in all\n", root->name, x, walked.divide,
-           walked.floating, taken);
+           walked.foreign, taken);
 }
 
 static void look_at_all(const struct root *root)
@@ -81,7 +82,7 @@ static void look_at_all(const struct root *root)
            digits(root->of(~0ul)));
 }
 
-/* The two that must show. */
+/* Those that must show. */
 
 static __attribute__((noinline)) uint64_t from_bit_63(uint64_t x)
 {
@@ -101,6 +102,8 @@ static volatile uint64_t one = 1;
 
 static __attribute__((noinline)) uint64_t by_division(uint64_t x) { return x / one; }
 
+static __attribute__((noinline)) uint64_t by_floating_point(uint64_t x) { return (uint64_t)(double)(x >> 1); }
+
 static void must_show(const struct root *root)
 {
     if (is_well(root, 1)) {
@@ -115,6 +118,7 @@ int main(void)
     look_at_all(&cube);
     must_show(&(struct root){"a square root that starts at bit 63", from_bit_63, square.a_digit});
     must_show(&(struct root){"a division", by_division, square.a_digit});
+    must_show(&(struct root){"a guess by floating point", by_floating_point, square.a_digit});
     printf("steps: %lu walks, %lu differences\n", walks, differences);
     return differences != 0;
 }

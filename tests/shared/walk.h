@@ -17,11 +17,18 @@ struct walk_action {
 int sigaction(int, const struct walk_action *, struct walk_action *);
 enum { WALK_SIGTRAP = 5, WALK_SA_SIGINFO = 4, WALK_RIP = 21 };
 
-/* Since walk_on: all instructions, those that divide whole numbers, and those of floating point. walk_on and walk_off
- * themselves add a few to the first. */
+/* Since walk_on: all instructions, those that divide whole numbers, and those that are of floating point or newer than
+ * the first x86-64. walk_on and walk_off themselves add a few to the first. */
 static struct {
-    uint64_t all, divide, floating;
+    uint64_t all, divide, foreign;
 } walked;
+
+/* Of the second byte of SSE's instructions: conversions and comparisons, roots and reciprocals, arithmetic. */
+static int walk_is_sse(uint8_t code)
+{
+    return (code >= 0x2a && code <= 0x2f) || (code >= 0x51 && code <= 0x53) || (code >= 0x58 && code <= 0x5f) ||
+           code == 0xc2;
+}
 
 static void walk_step(int signal, void *information, void *context)
 {
@@ -33,10 +40,10 @@ static void walk_step(int signal, void *information, void *context)
     /* div and idiv */
     if ((*code == 0xf6 || *code == 0xf7) && (code[1] >> 3 & 6) == 6)
         walked.divide++;
-    /* roots and reciprocals, arithmetic and conversions of SSE; x87; what came after the first x86-64 */
-    if ((*code == 0x0f && ((code[1] >= 0x51 && code[1] <= 0x53) || (code[1] >= 0x58 && code[1] <= 0x5f))) ||
-        *code >> 3 == 0xd8 >> 3 || *code == 0xc4 || *code == 0xc5 || *code == 0x62)
-        walked.floating++;
+    /* SSE, x87, and what has a longer prefix */
+    if ((*code == 0x0f && walk_is_sse(code[1])) || *code >> 3 == 0xd8 >> 3 || *code == 0xc4 || *code == 0xc5 ||
+        *code == 0x62)
+        walked.foreign++;
 }
 
 /* The flags go through the stack, past what may stand below its end. */
@@ -48,7 +55,7 @@ static inline void walk_on(void)
 {
     static const struct walk_action action = {.handler = walk_step, .flags = WALK_SA_SIGINFO};
     sigaction(WALK_SIGTRAP, &action, 0);
-    walked.all = walked.divide = walked.floating = 0;
+    walked.all = walked.divide = walked.foreign = 0;
     WALK_FLAGS("orq $256");
 }
 

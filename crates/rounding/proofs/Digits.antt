@@ -32,8 +32,11 @@ pub record Found (z e x left root rest down : ℕ) : Type 0 where
 -- ---- a digit: n is the leading part with its next group, n / 2 ^ e the part before that
 
 module _ {e r rest : ℕ} (n : ℕ) (some : 0 < e) (h : Rooted e (n / 2 ^ e) r rest) where
-  -- the group is brought down to the rest
-  brought : (2 * r) ^ e + (rest * 2 ^ e + n % 2 ^ e) ≡ n
+  -- what is there once the group is brought down
+  abbrev there : ℕ
+  there = rest * 2 ^ e + n % 2 ^ e
+
+  brought : (2 * r) ^ e + there ≡ n
   brought = rw mul-pow (omega (arith, ap (λ (z : ℕ). z * 2 ^ e) (h .remainder), split n e))
 
   -- no digit is above 1
@@ -48,7 +51,7 @@ module _ {e r rest : ℕ} (n : ℕ) (some : 0 < e) (h : Rooted e (n / 2 ^ e) r r
 
   -- behind the digits r a 1 takes m more than a 0
   module _ (m : ℕ) (takes : (2 * r + 1) ^ e ≡ (2 * r) ^ e + m) where
-    digit-zero : rest * 2 ^ e + n % 2 ^ e < m → Rooted e n (2 * r) (rest * 2 ^ e + n % 2 ^ e)
+    digit-zero : there < m → Rooted e n (2 * r) there
     digit-zero less =
         record {
           root =
@@ -57,7 +60,7 @@ module _ {e r rest : ℕ} (n : ℕ) (some : 0 < e) (h : Rooted e (n / 2 ^ e) r r
           remainder = brought;
         }
 
-    digit-one : m ≤ rest * 2 ^ e + n % 2 ^ e → Rooted e n (2 * r + 1) (rest * 2 ^ e + n % 2 ^ e - m)
+    digit-one : m ≤ there → Rooted e n (2 * r + 1) (there - m)
     digit-one enough =
         record {
           root =
@@ -136,11 +139,14 @@ module _ {z e x left root rest down : ℕ}
       (rw pow-mul (lt-of-lt-of-le before-lt (pow-mono (omega arith)))))
 
   pub held-lt : (most : ℕ) → 64 ≤ e * most + e → 0 < z → root < z * 2 ^ most
-  held-lt most enough some = rw (h .held) (mul-lt-mul-of-pos-left (digits-lt most enough) some)
+  held-lt most enough hz = rw (h .held) (mul-lt-mul-of-pos-left (digits-lt most enough) hz)
 
-  -- nothing of the rest is shifted out
-  rest-is : rest * 2 ^ e % 2 ^ 64 + down / 2 ^ (64 - e) ≡ rest * 2 ^ e + lead % 2 ^ e
-  rest-is = rw (shl-exact (64 - e) e 64 short wide, h .behind, group-is-next e x less one-group (h .within))
+  -- what the code makes of the rest and the next group: nothing of it is shifted out
+  abbrev down-there : ℕ
+  down-there = rest * 2 ^ e % 2 ^ 64 + down / 2 ^ (64 - e)
+
+  there-is : down-there ≡ there lead some rooted
+  there-is = rw (shl-exact (64 - e) e 64 short wide, h .behind, group-is-next e x less one-group (h .within))
     where
       short : rest < 2 ^ (64 - e)
       short = omega (arith, before-lt, h .leading .remainder)
@@ -148,8 +154,8 @@ module _ {z e x left root rest down : ℕ}
       wide : 64 - e + e ≤ 64
       wide = omega (arith, h .within, one-group)
 
-  pub rest-fits : rest * 2 ^ e % 2 ^ 64 + down / 2 ^ (64 - e) < 2 ^ 64
-  rest-fits = rw rest-is (omega (arith, brought lead some rooted, shr-le x less))
+  pub there-fits : down-there < 2 ^ 64
+  there-fits = rw there-is (omega (arith, brought lead some rooted, shr-le x less))
 
   next : {r s : ℕ} (d : ℕ) → r ≡ z * d → Rooted e lead d s → Found z e x (left - 1) r s (down * 2 ^ e % 2 ^ 64)
   next d held leading =
@@ -162,19 +168,16 @@ module _ {z e x left root rest down : ℕ}
       }
 
   module _ (m : ℕ) (takes : (2 * h .digits + 1) ^ e ≡ (2 * h .digits) ^ e + m) where
-    pub found-zero :
-        rest * 2 ^ e % 2 ^ 64 + down / 2 ^ (64 - e) < m →
-        Found z e x (left - 1) (2 * root) (rest * 2 ^ e % 2 ^ 64 + down / 2 ^ (64 - e)) (down * 2 ^ e % 2 ^ 64)
+    pub found-zero : down-there < m → Found z e x (left - 1) (2 * root) down-there (down * 2 ^ e % 2 ^ 64)
     found-zero short =
-        rw rest-is
-        (next (2 * h .digits) (omega (arith, h .held)) (digit-zero lead some rooted m takes (rw rest-is at short)))
+        rw there-is
+        (next (2 * h .digits) (omega (arith, h .held)) (digit-zero lead some rooted m takes (rw there-is at short)))
 
     pub found-one :
-        m ≤ rest * 2 ^ e % 2 ^ 64 + down / 2 ^ (64 - e) →
-        Found z e x (left - 1) (2 * root + z) (rest * 2 ^ e % 2 ^ 64 + down / 2 ^ (64 - e) - m) (down * 2 ^ e % 2 ^ 64)
+        m ≤ down-there → Found z e x (left - 1) (2 * root + z) (down-there - m) (down * 2 ^ e % 2 ^ 64)
     found-one enough =
-        rw rest-is
-        (next (2 * h .digits + 1) (omega (arith, h .held)) (digit-one lead some rooted m takes (rw rest-is at enough)))
+        rw there-is
+        (next (2 * h .digits + 1) (omega (arith, h .held)) (digit-one lead some rooted m takes (rw there-is at enough)))
 
 -- ---- the first digit, and the end
 
