@@ -14,6 +14,7 @@ static const uint64_t A = 10747904, B = 7340032;
 /* Z = 0.972 of 107.304 is 81 of 8942. */
 enum { Z = 81, WHITE = 8942 };
 
+/* A group has as many digits as the exponent says; the library's root; the exponent as the page has it. */
 struct root {
     int group;
     uint64_t (*of)(uint64_t);

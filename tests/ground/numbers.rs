@@ -4,7 +4,7 @@ use crate::cases::Cases;
 use crate::random::Random;
 
 pub fn root_cases(cases: &mut Cases, random: &mut Random) {
-    // whatever the first group is, and the digits behind it
+    // every number of up to 16 binary digits: each first group, and what can stand behind it
     for x in (0..1 << 16).chain(u64::MAX - 2..=u64::MAX) {
         cases.square(x);
         cases.cube(x);
