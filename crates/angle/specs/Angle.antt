@@ -15,21 +15,21 @@ pub mod Cases
 -- ---- directions
 
 -- a quarter turn anticlockwise takes (x, y) to (-y, x)
-abbrev pub quarterTurn : Direction → Direction
-quarterTurn v = record { a = neg_ℤ v.b; b = v.a }
+abbrev pub quarter_turn : Direction → Direction
+quarter_turn v = record { a = neg_ℤ v.b; b = v.a }
 
 -- after q quarter turns
 abbrev pub turned : (q : ℕ) → Direction → Direction
 turned zero v = v
-turned (suc q) v = quarterTurn (turned q v)
+turned (suc q) v = quarter_turn (turned q v)
 
 -- the table's vector of k degrees, k from 0 to 90
 abbrev pub vector : (k : ℕ) → Direction
 vector k = record { a = pos (cosine k); b = pos (sine k) }
 
 -- the direction of a degree from 0 to 359: degree 90 q + k has the table's vector of k, after q quarter turns
-abbrev pub directionAt : (degree : ℕ) → Direction
-directionAt d = turned (d / 90) (vector (d % 90))
+abbrev pub direction_at : (degree : ℕ) → Direction
+direction_at d = turned (d / 90) (vector (d % 90))
 
 -- ---- the colour (a, b)
 
@@ -45,7 +45,7 @@ quadrant a b =
 unfoldable pub reached : (a b : ℤ) (degree : ℕ) → Bool
 reached a b d =
     ltb (d / 90) (quadrant a b)
-    || eqb (d / 90) (quadrant a b) && not (minus (cross (directionAt d).a (directionAt d).b a b))
+    || eqb (d / 90) (quadrant a b) && not (minus (cross (direction_at d).a (direction_at d).b a b))
 
 -- ---- the angle
 
@@ -55,15 +55,15 @@ greatest p zero = 0
 greatest p (suc n) = cond (p n) n (greatest p n)
 
 -- the greatest of the degrees 0 to 359 that (a, b) has reached or passed, and 0 at a = b = 0
-unfoldable pub hueAngle : (a b : ℤ) → ℕ
-hueAngle a b = cond (eqb (square a + square b) 0) 0 (greatest (reached a b) 360)
+unfoldable pub hue_angle : (a b : ℤ) → ℕ
+hue_angle a b = cond (eqb (square a + square b) 0) 0 (greatest (reached a b) 360)
 
 -- ---- in the first quadrant, in whole numbers: what the code works out once it has turned a colour back
 
 -- (x, y) has reached or passed the direction of k degrees
-abbrev pub reachedAhead : (x y k : ℕ) → Bool
-reachedAhead x y k = leb (sine k * x) (cosine k * y)
+abbrev pub reached_ahead : (x y k : ℕ) → Bool
+reached_ahead x y k = leb (sine k * x) (cosine k * y)
 
 -- the greatest of the degrees 0 to 89 that it has reached or passed
-unfoldable pub degreesAhead : (x y : ℕ) → ℕ
-degreesAhead x y = greatest (reachedAhead x y) 90
+unfoldable pub degrees_ahead : (x y : ℕ) → ℕ
+degrees_ahead x y = greatest (reached_ahead x y) 90

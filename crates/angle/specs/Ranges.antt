@@ -20,5 +20,5 @@ pub record AtDegree (k x y : ℕ) : Type 0 where
   pub colour : Ahead x y
 
 pub record OnPlane (a b : ℤ) : Type 0 where
-  pub a-range : ∣ a ∣ ≤ 256 * 2 ^ 20
-  pub b-range : ∣ b ∣ ≤ 256 * 2 ^ 20
+  pub a_range : ∣ a ∣ ≤ 256 * 2 ^ 20
+  pub b_range : ∣ b ∣ ≤ 256 * 2 ^ 20

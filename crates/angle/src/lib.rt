@@ -3,7 +3,7 @@ mod cosine;
 mod sine;
 
 ghost use Rattle.std.specs.Prelude.{◌≡◌};
-ghost use Rattle.angle.specs.Angle.{quadrant, hueAngle, reachedAhead, degreesAhead};
+ghost use Rattle.angle.specs.Angle.{quadrant, hue_angle, reached_ahead, degrees_ahead};
 ghost use Rattle.angle.specs.Ranges.{IsTable, Ahead, AtDegree, OnPlane};
 
 use cosine::COSINE;
@@ -27,7 +27,7 @@ fn quadrant_of(a: i64, b: i64) -> u32
 // Whether (x, y), of the first quadrant, has reached or passed the direction of k degrees: their cross is not negative.
 fn has_reached(sine: &[u32], cosine: &[u32], k: u32, x: u64, y: u64) -> bool
     requires { IsTable sine.now cosine.now × AtDegree k x y }
-    ensures { result ≡ reachedAhead x y k }
+    ensures { result ≡ reached_ahead x y k }
 {
     let at = k as usize;
     sine[at] as u64 * x <= cosine[at] as u64 * y
@@ -36,7 +36,7 @@ fn has_reached(sine: &[u32], cosine: &[u32], k: u32, x: u64, y: u64) -> bool
 // The whole degrees that (x, y), of the first quadrant, has reached or passed: seven binary digits, from the highest.
 fn search(sine: &[u32], cosine: &[u32], x: u64, y: u64) -> u32
     requires { IsTable sine.now cosine.now × Ahead x y }
-    ensures { result ≡ degreesAhead x y }
+    ensures { result ≡ degrees_ahead x y }
 {
     let mut degrees: u32 = 0;
     let mut left: u32 = 7;
@@ -55,7 +55,7 @@ fn search(sine: &[u32], cosine: &[u32], x: u64, y: u64) -> u32
 // The same, by the table. A const array is written out wherever it is read, so it is read once, and lent to the search.
 fn degrees_ahead(x: u64, y: u64) -> u32
     requires { Ahead x y }
-    ensures { result ≡ degreesAhead x y }
+    ensures { result ≡ degrees_ahead x y }
 {
     search(&SINE, &COSINE, x, y)
 }
@@ -63,7 +63,7 @@ fn degrees_ahead(x: u64, y: u64) -> u32
 // The greatest whole degree, from 0 to 359, that (a, b) has reached or passed in turning anticlockwise from +a*.
 pub fn hue_angle(a: i64, b: i64) -> u32
     requires { OnPlane a b }
-    ensures { result ≡ hueAngle a b }
+    ensures { result ≡ hue_angle a b }
 {
     let x = magnitude(a);
     let y = magnitude(b);

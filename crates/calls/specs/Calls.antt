@@ -4,17 +4,17 @@ use Rattle.std.specs.Prelude.{◌≡◌, Bool, false, not, cond, List, ◌∷◌
 use Rattle.std.proofs.Common.{sym, ◌∙◌}
 use Rattle.colour.specs.declared.placed.Reading.{Reading}
 use Rattle.text.specs.Put.{put_at}
-use Rattle.ticket.specs.Ticket.{ticketOf}
-use Rattle.report.specs.Report.{reportText}
-use Rattle.report.specs.Write.{hasRoom}
-use Rattle.standard.specs.Refusals.{Fault, fault, first, refusal, atRoom}
-use Rattle.standard.specs.Acceptance.{settingsOf}
+use Rattle.ticket.specs.Ticket.{ticket_of}
+use Rattle.report.specs.Report.{report_text}
+use Rattle.report.specs.Write.{has_room}
+use Rattle.standard.specs.Refusals.{Fault, fault, first, refusal, at_room}
+use Rattle.standard.specs.Acceptance.{settings_of}
 use Rattle.standard.specs.Judgement.{number_of}
 use Rattle.standard.specs.declared.judge.Outcome.{Outcome}
 use Rattle.standard.specs.declared.judge.Outcome.TheVariants.{Refused, Judged}
 use Rattle.station.specs.Record.{decode}
 use Rattle.station.specs.Runs.{left}
-use Rattle.calls.specs.Outcome.{loaded, loadFaults, judgedBy, judgeFaults, ticketOutcome, ticketFaults}
+use Rattle.calls.specs.Outcome.{loaded, load_faults, judged_by, judge_faults, ticket_outcome, ticket_faults}
 pub mod Laws
 pub mod One
 pub mod Every
@@ -45,39 +45,39 @@ writing number written before = record { number = number; bytes = cond (eqb numb
 
 -- ---- a load: with 10 for a slice of another length
 
-abbrev pub lengthFault : List ℕ → Fault
-lengthFault xs = fault atRoom 10 (not (eqb (length xs) 20))
+abbrev pub length_fault : List ℕ → Fault
+length_fault xs = fault at_room 10 (not (eqb (length xs) 20))
 
-unfoldable pub loadCall : List ℕ → (formula white l c tolerance : ℕ) → Reading → Answer
-loadCall xs formula white l c tolerance r =
-    writing (refusal (lengthFault xs ∷ loadFaults formula white l c tolerance r))
-    (left xs (loaded (settingsOf formula white l c tolerance) r)) xs
+unfoldable pub load_call : List ℕ → (formula white l c tolerance : ℕ) → Reading → Answer
+load_call xs formula white l c tolerance r =
+    writing (refusal (length_fault xs ∷ load_faults formula white l c tolerance r))
+    (left xs (loaded (settings_of formula white l c tolerance) r)) xs
 
 -- ---- a report: with 10 for a room that is shorter than it from the column on
 
 -- where nothing is judged there is no report to find room for
-abbrev pub roomFault : Outcome → (room : List ℕ) (column : ℕ) → Fault
-roomFault o room column = fault atRoom 10 (short o)
+abbrev pub room_fault : Outcome → (room : List ℕ) (column : ℕ) → Fault
+room_fault o room column = fault at_room 10 (short o)
   where
     short : Outcome → Bool
     short (Refused n) = false
-    short (Judged j) = not (hasRoom room column j)
+    short (Judged j) = not (has_room room column j)
 
 -- the room with the report in it from the column on, every other byte as it was
-abbrev pub withReport : Outcome → (room : List ℕ) (column : ℕ) → List ℕ
-withReport (Refused n) room column = room
-withReport (Judged j) room column = put_at room column (reportText j)
+abbrev pub with_report : Outcome → (room : List ℕ) (column : ℕ) → List ℕ
+with_report (Refused n) room column = room
+with_report (Judged j) room column = put_at room column (report_text j)
 
-unfoldable pub judgeCall : List ℕ → Reading → (room : List ℕ) (column : ℕ) → Answer
-judgeCall xs r room column =
-    let o : Outcome = judgedBy (decode xs) r in
-    writing (refusal (roomFault o room column ∷ judgeFaults (decode xs) r)) (withReport o room column) room
+unfoldable pub judge_call : List ℕ → Reading → (room : List ℕ) (column : ℕ) → Answer
+judge_call xs r room column =
+    let o : Outcome = judged_by (decode xs) r in
+    writing (refusal (room_fault o room column ∷ judge_faults (decode xs) r)) (with_report o room column) room
 
-unfoldable pub ticketCall : (text room : List ℕ) (column : ℕ) → Answer
-ticketCall text room column =
-    let o : Outcome = ticketOutcome (ticketOf text) in
-    writing (refusal (roomFault o room column ∷ ticketFaults (ticketOf text))) (withReport o room column) room
+unfoldable pub ticket_call : (text room : List ℕ) (column : ℕ) → Answer
+ticket_call text room column =
+    let o : Outcome = ticket_outcome (ticket_of text) in
+    writing (refusal (room_fault o room column ∷ ticket_faults (ticket_of text))) (with_report o room column) room
 
 -- both by what they come to
 unfoldable pub reported : Outcome → (room : List ℕ) (column : ℕ) → Answer
-reported o room column = writing (first (number_of o) (roomFault o room column).number) (withReport o room column) room
+reported o room column = writing (first (number_of o) (room_fault o room column).number) (with_report o room column) room

@@ -3,9 +3,9 @@
 use Rattle.std.specs.Prelude.{ℕ}
 use Rattle.ticket.specs.declared.lines.Parsed.{Parsed}
 use Rattle.ticket.specs.declared.lines.Parsed.TheVariants.{Right, Wrong}
-use Rattle.standard.specs.Figures.{specimenAnswer}
+use Rattle.standard.specs.Figures.{specimen_answer}
 use Rattle.calls.specs.declared.figures.TicketAnswer.{TicketAnswer}
-use Rattle.calls.specs.Outcome.{ticketOutcome}
+use Rattle.calls.specs.Outcome.{ticket_outcome}
 pub mod Laws
 
 -- the first wrong line, and 0 where the text is right
@@ -14,5 +14,5 @@ line_of (Right t) = 0
 line_of (Wrong line) = line
 
 -- what a ticket hands back: its number and its line, figures, names and verdict
-unfoldable pub ticketAnswer : Parsed → TicketAnswer
-ticketAnswer p = record { line = line_of p; answer = specimenAnswer (ticketOutcome p) }
+unfoldable pub ticket_answer : Parsed → TicketAnswer
+ticket_answer p = record { line = line_of p; answer = specimen_answer (ticket_outcome p) }

@@ -2,12 +2,12 @@
 -- left it. Assumes nothing.
 use Rattle.std.specs.Prelude.{◌≡◌, List, [], ◌∷◌, ℕ}
 use Rattle.colour.specs.declared.placed.Reading.{Reading}
-use Rattle.standard.specs.Acceptance.{settingsOf}
+use Rattle.standard.specs.Acceptance.{settings_of}
 use Rattle.standard.specs.declared.accept.Acceptance.{Acceptance}
 use Rattle.station.specs.Record.{zeros}
-use Rattle.station.specs.Runs.{lastAccepted, fresh}
+use Rattle.station.specs.Runs.{last_accepted, fresh}
 use Rattle.calls.specs.Outcome.{loaded}
-use Rattle.calls.specs.Calls.{Gives, loadCall, judgeCall}
+use Rattle.calls.specs.Calls.{Gives, load_call, judge_call}
 pub mod Laws
 
 pub data Call : Type 0 where
@@ -16,17 +16,17 @@ pub data Call : Type 0 where
   ticket : (text room : List ℕ) (column : ℕ) → Call
 
 -- the slice after a run: only a load can write it
-unfoldable pub sliceAfter : List ℕ → List Call → List ℕ
-sliceAfter xs [] = xs
-sliceAfter xs (load formula white l c tolerance r ∷ cs) =
-    sliceAfter (loadCall xs formula white l c tolerance r).bytes cs
-sliceAfter xs (judge r room column ∷ cs) = sliceAfter xs cs
-sliceAfter xs (ticket text room column ∷ cs) = sliceAfter xs cs
+unfoldable pub slice_after : List ℕ → List Call → List ℕ
+slice_after xs [] = xs
+slice_after xs (load formula white l c tolerance r ∷ cs) =
+    slice_after (load_call xs formula white l c tolerance r).bytes cs
+slice_after xs (judge r room column ∷ cs) = slice_after xs cs
+slice_after xs (ticket text room column ∷ cs) = slice_after xs cs
 
 -- what the loads of a run come to
 unfoldable pub loads : List Call → List Acceptance
 loads [] = []
-loads (load formula white l c tolerance r ∷ cs) = loaded (settingsOf formula white l c tolerance) r ∷ loads cs
+loads (load formula white l c tolerance r ∷ cs) = loaded (settings_of formula white l c tolerance) r ∷ loads cs
 loads (judge r room column ∷ cs) = loads cs
 loads (ticket text room column ∷ cs) = loads cs
 
@@ -34,4 +34,4 @@ loads (ticket text room column ∷ cs) = loads cs
 -- started station that was given the last accepted standard alone, or none
 abbrev pub AsFresh : (xs : List ℕ) → Reading → (room : List ℕ) (column n : ℕ) (ys : List ℕ) → Type 0
 AsFresh xs r room column n ys =
-    (cs : List Call) → xs ≡ sliceAfter zeros cs → Gives (judgeCall (fresh (lastAccepted (loads cs))) r room column) n ys
+    (cs : List Call) → xs ≡ slice_after zeros cs → Gives (judge_call (fresh (last_accepted (loads cs))) r room column) n ys

@@ -1,11 +1,11 @@
 // What each call comes to, handed back as floats.
 ghost use Rattle.std.specs.Prelude.{◌≡◌};
-ghost use Rattle.ticket.specs.Ticket.{ticketOf};
-ghost use Rattle.standard.specs.Acceptance.{settingsOf};
-ghost use Rattle.standard.specs.Figures.{referenceAnswer, specimenAnswer};
+ghost use Rattle.ticket.specs.Ticket.{ticket_of};
+ghost use Rattle.standard.specs.Acceptance.{settings_of};
+ghost use Rattle.standard.specs.Figures.{reference_answer, specimen_answer};
 ghost use Rattle.station.specs.Record.{decode};
-ghost use Rattle.calls.specs.Outcome.{loaded, judgedBy};
-ghost use Rattle.calls.specs.Line.{line_of, ticketAnswer};
+ghost use Rattle.calls.specs.Outcome.{loaded, judged_by};
+ghost use Rattle.calls.specs.Line.{line_of, ticket_answer};
 
 use crate::outcome::{judge_outcome, load_outcome, ticket_outcome};
 use colour::placed::Reading;
@@ -20,13 +20,13 @@ pub fn load_figures(
     tolerance: u32,
     r: Reading,
 ) -> ReferenceAnswer
-    ensures { result ≡ referenceAnswer (loaded (settingsOf formula white l c tolerance) r) }
+    ensures { result ≡ reference_answer (loaded (settings_of formula white l c tolerance) r) }
 {
     reference_answer(load_outcome(formula, white, l, c, tolerance, r))
 }
 
 pub fn judge_figures(station: &[u8], r: Reading) -> SpecimenAnswer
-    ensures { result ≡ specimenAnswer (judgedBy (decode station.now) r) }
+    ensures { result ≡ specimen_answer (judged_by (decode station.now) r) }
 {
     specimen_answer(judge_outcome(station, r))
 }
@@ -49,7 +49,7 @@ pub struct TicketAnswer {
 }
 
 pub fn ticket_figures(text: &[u8]) -> TicketAnswer
-    ensures { result ≡ ticketAnswer (ticketOf text.now) }
+    ensures { result ≡ ticket_answer (ticket_of text.now) }
 {
     let p = parse(text);
     let line = line_of(p);

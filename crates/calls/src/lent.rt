@@ -1,5 +1,5 @@
 // Calls on slices that the host lends. Each answers its refusal number or 0, and a refused call writes nothing.
-ghost use Rattle.calls.specs.Calls.{Gives, loadCall, reported, judgeCall, ticketCall};
+ghost use Rattle.calls.specs.Calls.{Gives, load_call, reported, judge_call, ticket_call};
 ghost use Rattle.calls.specs.Runs.{AsFresh};
 
 use crate::outcome::{judge_outcome, load_outcome, ticket_outcome};
@@ -21,7 +21,7 @@ pub fn load_call(
     tolerance: u32,
     r: Reading,
 ) -> u32
-    ensures { Gives (loadCall station.old formula white l c tolerance r) result station.new }
+    ensures { Gives (load_call station.old formula white l c tolerance r) result station.new }
 {
     match load_outcome(formula, white, l, c, tolerance, r) {
         Acceptance::Refused(n) => n,
@@ -48,7 +48,7 @@ fn report_on(o: Outcome, room: &mut [u8], column: usize) -> u32
 // Judges a test specimen by the standard in the station's slice, and writes the report. After any run of calls from
 // zeros the answer and the room are those of a freshly started station that was given the last accepted standard alone.
 pub fn judge_call(station: &[u8], r: Reading, room: &mut [u8], column: usize) -> u32
-    ensures gives { Gives (judgeCall station.now r room.old column) result room.new }
+    ensures gives { Gives (judge_call station.now r room.old column) result room.new }
     ensures run { AsFresh station.now r room.old column result room.new }
 {
     report_on(judge_outcome(station, r), room, column)
@@ -56,7 +56,7 @@ pub fn judge_call(station: &[u8], r: Reading, room: &mut [u8], column: usize) ->
 
 // Judges a ticket from a fresh station, and writes the report: no loaded standard is read or changed.
 pub fn ticket_call(text: &[u8], room: &mut [u8], column: usize) -> u32
-    ensures { Gives (ticketCall text.now room.old column) result room.new }
+    ensures { Gives (ticket_call text.now room.old column) result room.new }
 {
     report_on(ticket_outcome(parse(text)), room, column)
 }

@@ -1,8 +1,8 @@
 // What each call comes to: it places its readings, and has them accepted and judged.
 ghost use Rattle.std.specs.Prelude.{◌≡◌};
-ghost use Rattle.standard.specs.Acceptance.{settingsOf};
+ghost use Rattle.standard.specs.Acceptance.{settings_of};
 ghost use Rattle.station.specs.Record.{decode};
-ghost use Rattle.calls.specs.Outcome.{loaded, judgedBy, ticketOutcome};
+ghost use Rattle.calls.specs.Outcome.{loaded, judged_by, ticket_outcome};
 
 use colour::placed::{Reading, place_reading, place_written};
 use colour::refusal;
@@ -20,7 +20,7 @@ pub(crate) fn load_outcome(
     tolerance: u32,
     r: Reading,
 ) -> Acceptance
-    ensures { result ≡ loaded (settingsOf formula white l c tolerance) r }
+    ensures { result ≡ loaded (settings_of formula white l c tolerance) r }
 {
     match settings_of(formula, white, l, c, tolerance) {
         SettingsOf::Refused(n) => Acceptance::Refused(n),
@@ -33,7 +33,7 @@ pub(crate) fn load_outcome(
 
 // A judgement by what the station's slice holds.
 pub(crate) fn judge_outcome(station: &[u8], r: Reading) -> Outcome
-    ensures { result ≡ judgedBy (decode station.now) r }
+    ensures { result ≡ judged_by (decode station.now) r }
 {
     match read(station) {
         Station::Empty => Outcome::Refused(refusal::NO_STANDARD),
@@ -47,7 +47,7 @@ pub(crate) fn judge_outcome(station: &[u8], r: Reading) -> Outcome
 
 // A ticket whose text is right: a load, and then a judgement by what it brings.
 fn right_outcome(t: Ticket) -> Outcome
-    ensures { result ≡ ticketOutcome (Parsed.Right t) }
+    ensures { result ≡ ticket_outcome (Parsed.Right t) }
 {
     let settings = t.settings;
     let white = settings.white;
@@ -61,7 +61,7 @@ fn right_outcome(t: Ticket) -> Outcome
 
 // A ticket by its text, parsed. It neither reads nor changes a loaded standard.
 pub fn ticket_outcome(p: Parsed) -> Outcome
-    ensures { result ≡ ticketOutcome p }
+    ensures { result ≡ ticket_outcome p }
 {
     match p {
         Parsed::Right(t) => right_outcome(t),

@@ -9,8 +9,8 @@ use Rattle.reading.specs.declared.quantity.Units.{Units}
 use Rattle.reading.specs.declared.quantity.Units.TheVariants.{Of, NotFinite, OutOfRange}
 use Rattle.colour.specs.Placed.Ways.{NoUnits, not_finite, out_of_range}
 
-pub no-units : (u : Units) → (tag_of the_type u ≡ 1) ⊎ (tag_of the_type u ≡ 2) → NoUnits u
-no-units (Of z) (inl e) = absurd (omega arith)
-no-units (Of z) (inr e) = absurd (omega arith)
-no-units NotFinite h = not_finite
-no-units OutOfRange h = out_of_range
+pub no_units : (u : Units) → (tag_of the_type u ≡ 1) ⊎ (tag_of the_type u ≡ 2) → NoUnits u
+no_units (Of z) (inl e) = absurd (omega arith)
+no_units (Of z) (inr e) = absurd (omega arith)
+no_units NotFinite h = not_finite
+no_units OutOfRange h = out_of_range

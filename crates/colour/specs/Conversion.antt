@@ -3,9 +3,9 @@
 -- constants below it are an edition's. Definitions only: `Conversion/Laws.antt` has what callers go by.
 -- Assumes nothing.
 use Rattle.std.specs.Prelude.{Bool, cond, ◌&&◌, ℕ, ◌+◌, ◌-◌, ◌*◌, ◌/◌, ◌^◌, ltb, ℤ, pos, ◌-ℤ◌}
-use Rattle.rounding.specs.Root.{rootOf}
+use Rattle.rounding.specs.Root.{root_of}
 use Rattle.rounding.specs.Signed.{∣◌∣, ◌·◌}
-use Rattle.reading.specs.Reading.{range_of, isWithin}
+use Rattle.reading.specs.Reading.{range_of, is_within}
 use Rattle.reading.specs.declared.quantity.Quantity.TheVariants.{Lightness, Opponent}
 use Rattle.colour.specs.declared.white.TristimulusValues.{TristimulusValues}
 use Rattle.colour.specs.declared.conversion.GridColour.{GridColour}
@@ -40,28 +40,28 @@ bs6923 = record {
 }
 
 -- whether q = x / w is above the cut, exactly
-unfoldable pub aboveCut : Edition → (x w : ℕ) → Bool
-aboveCut e x w = ltb (e.cut.over * w) (x * e.cut.under)
+unfoldable pub above_cut : Edition → (x w : ℕ) → Bool
+above_cut e x w = ltb (e.cut.over * w) (x * e.cut.under)
 
 -- f above the cut: the greatest whole number whose cube is at most q times 2 ^ 3n
-unfoldable pub fHigh : (n x w : ℕ) → ℕ
-fHigh n x w = rootOf 3 (x * 2 ^ (3 * n) / w)
+unfoldable pub f_high : (n x w : ℕ) → ℕ
+f_high n x w = root_of 3 (x * 2 ^ (3 * n) / w)
 
 -- f up to the cut: 2 ^ n times (slope q + 16/116), rounded down once. With p / d for slope q that is
 -- (116 p + 16 d) / (116 d)
-unfoldable pub fLow : (n : ℕ) → Edition → (x w : ℕ) → ℕ
-fLow n e x w =
+unfoldable pub f_low : (n : ℕ) → Edition → (x w : ℕ) → ℕ
+f_low n e x w =
     let p : ℕ = e.slope.over * x in
     let d : ℕ = e.slope.under * w in
     (p * 116 + d * 16) * 2 ^ n / (d * 116)
 
 unfoldable pub f : (n : ℕ) → Edition → (x w : ℕ) → ℕ
-f n e x w = cond (aboveCut e x w) (fHigh n x w) (fLow n e x w)
+f n e x w = cond (above_cut e x w) (f_high n x w) (f_low n e x w)
 
 -- L* = 116 fy - 16 above the cut; otherwise light Y/Yn, rounded down once
 unfoldable pub lightness : (n : ℕ) → Edition → (Y Yn : ℕ) → ℕ
 lightness n e Y Yn =
-    cond (aboveCut e Y Yn) (116 * f n e Y Yn - 16 * 2 ^ n) (e.light.over * Y * 2 ^ n / (e.light.under * Yn))
+    cond (above_cut e Y Yn) (116 * f n e Y Yn - 16 * 2 ^ n) (e.light.over * Y * 2 ^ n / (e.light.under * Yn))
 
 -- a* = 500 (fx - fy), b* = 200 (fy - fz)
 unfoldable pub convert : (n : ℕ) → Edition → (white c : TristimulusValues) → Lab
@@ -74,17 +74,17 @@ convert n e white c =
 -- ---- the grid is the unit of 2 ^ -20
 
 -- L*, a* and b* lie in their ranges
-unfoldable pub onGrid : GridColour → Bool
-onGrid c =
-    isWithin (range_of Lightness) c.L.0 && isWithin (range_of Opponent) c.a.0
-    && isWithin (range_of Opponent) c.b.0
+unfoldable pub on_grid : GridColour → Bool
+on_grid c =
+    is_within (range_of Lightness) c.L.0 && is_within (range_of Opponent) c.a.0
+    && is_within (range_of Opponent) c.b.0
 
 -- at 20 places a colour is one of the grid
-abbrev pub gridColour : Lab → GridColour
-gridColour c = record { L = record { 0 = pos c.L }; a = record { 0 = c.a }; b = record { 0 = c.b } }
+abbrev pub grid_colour : Lab → GridColour
+grid_colour c = record { L = record { 0 = pos c.L }; a = record { 0 = c.a }; b = record { 0 = c.b } }
 
 -- a colour of the grid in units of 2 ^ -n, for n from 20 up; L* is not below 0
-unfoldable pub atPlaces : (n : ℕ) → GridColour → Lab
-atPlaces n c =
+unfoldable pub at_places : (n : ℕ) → GridColour → Lab
+at_places n c =
     let k : ℕ = 2 ^ (n - 20) in
     record { L = k * ∣ c.L.0 ∣; a = k · c.a.0; b = k · c.b.0 }

@@ -11,28 +11,28 @@ abbrev thousandths : (Xn Yn Zn : ℕ) → TristimulusValues
 thousandths Xn Yn Zn = record { X = Xn * 1000; Y = Yn * 1000; Z = Zn * 1000 }
 
 -- D65/10, D65/2, C/10, C/2
-unfoldable pub whiteOf : White → TristimulusValues
-whiteOf D65Ten = thousandths 94811 100000 107304
-whiteOf D65Two = thousandths 95047 100000 108883
-whiteOf CTen = thousandths 97285 100000 116145
-whiteOf CTwo = thousandths 98074 100000 118232
+unfoldable pub white_of : White → TristimulusValues
+white_of D65Ten = thousandths 94811 100000 107304
+white_of D65Two = thousandths 95047 100000 108883
+white_of CTen = thousandths 97285 100000 116145
+white_of CTwo = thousandths 98074 100000 118232
 
 -- by which a load names them
-abbrev pub numberOfWhite : White → ℕ
-numberOfWhite D65Ten = 1
-numberOfWhite D65Two = 2
-numberOfWhite CTen = 3
-numberOfWhite CTwo = 4
+abbrev pub number_of_white : White → ℕ
+number_of_white D65Ten = 1
+number_of_white D65Two = 2
+number_of_white CTen = 3
+number_of_white CTwo = 4
 
 -- the white of a number, if there is one
-unfoldable pub whiteNumbered : ℕ → Numbered
-whiteNumbered n =
+unfoldable pub white_numbered : ℕ → Numbered
+white_numbered n =
     cond (eqb n 1) (Is D65Ten)
     (cond (eqb n 2) (Is D65Two) (cond (eqb n 3) (Is CTen) (cond (eqb n 4) (Is CTwo) Unknown)))
 
-pub numbered-back : (w : White) → whiteNumbered (numberOfWhite w) ≡ Is w
-unfolding whiteNumbered
-numbered-back D65Ten = refl
-numbered-back D65Two = refl
-numbered-back CTen = refl
-numbered-back CTwo = refl
+pub numbered_back : (w : White) → white_numbered (number_of_white w) ≡ Is w
+unfolding white_numbered
+numbered_back D65Ten = refl
+numbered_back D65Two = refl
+numbered_back CTen = refl
+numbered_back CTwo = refl

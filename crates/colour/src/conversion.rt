@@ -1,7 +1,7 @@
 // SCOPE 5, from X, Y, Z to the grid by the constants of BS 6923: the lines of specs/Conversion.antt at 20 places.
 ghost use Rattle.std.specs.Prelude.{◌≡◌, pos, ◌-ℤ◌, ◌*ℤ◌};
-ghost use Rattle.colour.specs.Conversion.{bs6923, aboveCut, fHigh, fLow, f, lightness, convert, gridColour};
-ghost use Rattle.colour.specs.Conversion.{onGrid};
+ghost use Rattle.colour.specs.Conversion.{bs6923, above_cut, f_high, f_low, f, lightness, convert, grid_colour};
+ghost use Rattle.colour.specs.Conversion.{on_grid};
 ghost use Rattle.colour.specs.Conversion.Ranges.{Against, Lit, Measured, Opposed};
 
 use crate::white::TristimulusValues;
@@ -21,7 +21,7 @@ pub struct GridColour {
 impl GridColour {
     // Whether L*, a* and b* lie in their ranges.
     pub fn is_on_grid(self) -> bool
-        ensures { result ≡ onGrid self }
+        ensures { result ≡ on_grid self }
     {
         if !self.L.is_lightness() {
             return false;
@@ -36,7 +36,7 @@ impl GridColour {
 // Whether x / w is above the cut.
 fn is_above_cut(x: u64, w: u64) -> bool
     requires { Against x w }
-    ensures { result ≡ aboveCut bs6923 x w }
+    ensures { result ≡ above_cut bs6923 x w }
 {
     8856 * w < x * 1000000
 }
@@ -44,7 +44,7 @@ fn is_above_cut(x: u64, w: u64) -> bool
 // f above the cut.
 fn f_high(x: u64, w: u64) -> u64
     requires { Against x w }
-    ensures { result ≡ fHigh 20 x w }
+    ensures { result ≡ f_high 20 x w }
 {
     cube_root(fraction(x, w, 60))
 }
@@ -52,7 +52,7 @@ fn f_high(x: u64, w: u64) -> u64
 // f up to the cut.
 fn f_low(x: u64, w: u64) -> u64
     requires { Against x w }
-    ensures { result ≡ fLow 20 bs6923 x w }
+    ensures { result ≡ f_low 20 bs6923 x w }
 {
     let p = 7787 * x;
     let d = 1000 * w;
@@ -91,7 +91,7 @@ fn opponent_of(k: i64, p: u64, q: u64) -> i64
 // X, Y, Z against a white, on the grid.
 pub(crate) fn grid_colour(c: TristimulusValues, white: TristimulusValues) -> GridColour
     requires { Measured c white }
-    ensures { result ≡ gridColour (convert 20 bs6923 white c) }
+    ensures { result ≡ grid_colour (convert 20 bs6923 white c) }
 {
     let fx = f_of(c.X, white.X);
     let fy = f_of(c.Y, white.Y);

@@ -1,7 +1,7 @@
 // A reading's place on the grid, or its refusal's number.
 ghost use Rattle.std.specs.Prelude.{◌≡◌};
-ghost use Rattle.colour.specs.Placed.{isNotFinite, fault, take, accepted, converted, placeXyz, placeLab, place};
-ghost use Rattle.colour.specs.Placed.{placeWritten};
+ghost use Rattle.colour.specs.Placed.{is_not_finite, fault, take, accepted, converted, place_xyz, place_lab, place};
+ghost use Rattle.colour.specs.Placed.{place_written};
 ghost use Rattle.colour.specs.Placed.Ranges.{Millionths, XyzWithin};
 
 use crate::conversion::{GridColour, grid_colour};
@@ -35,7 +35,7 @@ pub enum Placed {
 }
 
 fn is_not_finite(u: Units) -> bool
-    ensures { result ≡ isNotFinite u }
+    ensures { result ≡ is_not_finite u }
 {
     match u {
         Units::Of(_) => false,
@@ -89,7 +89,7 @@ fn converted_colour(x: i64, y: i64, z: i64, white: White) -> GridColour
 // X, Y, Z as they were read.
 fn place_xyz(u: Units, v: Units, w: Units, white: White) -> Placed
     requires { XyzWithin u v w }
-    ensures { result ≡ take u v w (placeXyz white) }
+    ensures { result ≡ take u v w (place_xyz white) }
 {
     let Units::Of(x) = u else {
         return Placed::Refused(fault_of(u, v, w));
@@ -105,7 +105,7 @@ fn place_xyz(u: Units, v: Units, w: Units, white: White) -> Placed
 
 // L*, a*, b* as they were read.
 fn place_lab(u: Units, v: Units, w: Units) -> Placed
-    ensures { result ≡ take u v w placeLab }
+    ensures { result ≡ take u v w place_lab }
 {
     let Units::Of(l) = u else {
         return Placed::Refused(fault_of(u, v, w));
@@ -145,7 +145,7 @@ pub fn place_reading(r: Reading, white: White) -> Placed
 
 // Where a written reading lies on the grid.
 pub fn place_written(r: Written, white: White) -> Placed
-    ensures { result ≡ placeWritten white r }
+    ensures { result ≡ place_written white r }
 {
     match r {
         Written::Xyz(x, y, z) => {

@@ -1,6 +1,6 @@
 // The whites of BS 6923, Table 1.
 ghost use Rattle.std.specs.Prelude.{◌≡◌};
-ghost use Rattle.colour.specs.White.{whiteOf, numberOfWhite, whiteNumbered};
+ghost use Rattle.colour.specs.White.{white_of, number_of_white, white_numbered};
 ghost use Rattle.colour.specs.declared.white.White.{White};
 
 // Tristimulus values, of a specimen or of a white, in millionths.
@@ -30,7 +30,7 @@ pub enum Numbered {
 impl White {
     // The white's own tristimulus values.
     pub fn tristimulus(self) -> TristimulusValues
-        ensures { result ≡ whiteOf self }
+        ensures { result ≡ white_of self }
     {
         match self {
             White::D65Ten => TristimulusValues {
@@ -58,7 +58,7 @@ impl White {
 
     // By which a load names the white.
     pub fn number(self) -> u32
-        ensures { result ≡ numberOfWhite self }
+        ensures { result ≡ number_of_white self }
     {
         match self {
             White::D65Ten => 1,
@@ -70,7 +70,7 @@ impl White {
 
     // The white of a number.
     pub fn numbered(n: u32) -> Numbered
-        ensures { result ≡ whiteNumbered n }
+        ensures { result ≡ white_numbered n }
     {
         match n {
             1 => Numbered::Is(White::D65Ten),

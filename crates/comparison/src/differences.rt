@@ -3,7 +3,7 @@ ghost use Rattle.std.specs.Prelude.{◌≡◌, ◌^◌, ◌≤◌};
 ghost use Rattle.rounding.specs.Signed.{∣◌∣};
 ghost use Rattle.sheet.specs.Settings.{Factor};
 ghost use Rattle.sheet.specs.Ranges.{SemiAxis, SemiAxesInRange, Moved, Components};
-ghost use Rattle.sheet.specs.Sheet.{component, componentH, total, differences};
+ghost use Rattle.sheet.specs.Sheet.{component, component_h, total, differences};
 
 use reading::grid::Grid;
 use rounding::roots::square_root;
@@ -24,7 +24,7 @@ fn component_of(l: u64, s: u64, z: i64) -> i64
 // DH of SH and ΔH.
 fn component_h(s: u64, z: i64) -> i64
     requires { (SemiAxis s) × (∣ z ∣ ≤ 2 ^ 30) }
-    ensures { result ≡ componentH 20 s z }
+    ensures { result ≡ component_h 20 s z }
 {
     quotient(Grid::UNITS_IN_ONE, z, s)
 }

@@ -1,10 +1,10 @@
 // Lines 1 and 2: test minus reference.
 ghost use Rattle.std.specs.Prelude.{◌≡◌, ◌^◌, ◌≤◌, ◌<◌};
 ghost use Rattle.rounding.specs.Signed.{∣◌∣};
-ghost use Rattle.colour.specs.Conversion.{atPlaces};
+ghost use Rattle.colour.specs.Conversion.{at_places};
 ghost use Rattle.colour.specs.Conversion.Ranges.{OnGrid};
 ghost use Rattle.sheet.specs.Ranges.{Four};
-ghost use Rattle.sheet.specs.Sheet.{distance², change, cross_of, dotOf, hueChange, shift};
+ghost use Rattle.sheet.specs.Sheet.{distance², change, cross_of, dot_of, hue_change, shift};
 ghost use Rattle.comparison.specs.Ranges.{AtHand};
 
 use colour::conversion::GridColour;
@@ -31,7 +31,7 @@ fn distance_squared(ar: i64, br: i64, at: i64, bt: i64) -> u64
 // ΔH of D², ΔC, the cross x and the dot y.
 fn hue_change(d2: u64, dc: i64, x: i64, y: i64) -> i64
     requires { ∣ dc ∣ ≤ 2 ^ 31 }
-    ensures { result ≡ hueChange d2 dc x y }
+    ensures { result ≡ hue_change d2 dc x y }
 {
     if same_hue(x, y) {
         return 0;
@@ -47,7 +47,7 @@ fn hue_change(d2: u64, dc: i64, x: i64, y: i64) -> i64
 // ΔL, ΔC and ΔH of two lightnesses, two chromas, D², the cross x and the dot y.
 fn shift_by(lr: u64, lt: u64, cr: u64, ct: u64, d2: u64, x: i64, y: i64) -> Shift
     requires { (lr < 2 ^ 60) × (lt < 2 ^ 60) × (cr < 2 ^ 31) × (ct < 2 ^ 31) }
-    ensures { result ≡ record { L = change lr lt; C = change cr ct; H = hueChange d2 (change cr ct) x y } }
+    ensures { result ≡ record { L = change lr lt; C = change cr ct; H = hue_change d2 (change cr ct) x y } }
 {
     let dl = change_of(lr, lt);
     let dc = change_of(cr, ct);
@@ -62,7 +62,7 @@ fn shift_by(lr: u64, lt: u64, cr: u64, ct: u64, d2: u64, x: i64, y: i64) -> Shif
 // Lines 1 and 2 of two colours whose chromas, cross and dot are at hand.
 pub(crate) fn shift_with(r: GridColour, cr: u64, t: GridColour, ct: u64, x: i64, y: i64) -> Shift
     requires { AtHand r cr t ct x y }
-    ensures { result ≡ shift (atPlaces 20 r) (atPlaces 20 t) }
+    ensures { result ≡ shift (at_places 20 r) (at_places 20 t) }
 {
     let lr = magnitude(r.L.0);
     let lt = magnitude(t.L.0);
@@ -79,7 +79,7 @@ pub(crate) fn cross_of(r: GridColour, t: GridColour) -> i64
 
 pub(crate) fn dot_of(r: GridColour, t: GridColour) -> i64
     requires { (OnGrid r) × (OnGrid t) }
-    ensures { result ≡ dotOf r t }
+    ensures { result ≡ dot_of r t }
 {
     plus_products(r.a.0, t.a.0, r.b.0, t.b.0)
 }

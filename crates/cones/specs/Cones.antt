@@ -1,7 +1,7 @@
 -- docs/SCOPE.md 13.1: the cones of a delivery, from three lists of one kind of reading. Assumes nothing.
 use Rattle.std.specs.Prelude.{List, [], pos, Float}
 use Rattle.std.specs.Float.{nan}
-use Rattle.reading.specs.Grid.{gridOf}
+use Rattle.reading.specs.Grid.{grid_of}
 use Rattle.colour.specs.Placed.{place}
 use Rattle.colour.specs.declared.conversion.GridColour.{GridColour}
 use Rattle.colour.specs.declared.placed.Placed.{Placed}
@@ -21,34 +21,34 @@ reading_of Xyz x y z = R.Xyz x y z
 reading_of Lab x y z = R.Lab x y z
 
 -- cone i is the reading of entry i of each of the three
-abbrev pub readingsOf : Kind → (xs ys zs : List Float) → List Reading
-readingsOf k xs ys zs = zip (reading_of k) xs ys zs
+abbrev pub readings_of : Kind → (xs ys zs : List Float) → List Reading
+readings_of k xs ys zs = zip (reading_of k) xs ys zs
 
 -- what a read past the end would be
-abbrev pub noReading : Reading
-noReading = R.Lab nan nan nan
+abbrev pub no_reading : Reading
+no_reading = R.Lab nan nan nan
 
 -- a cone is taken with its colour, or refused with 5, 6 or 8
-abbrev pub placedTurn : Placed → Turn GridColour
-placedTurn (At c) = taken c
-placedTurn (Refused n) = denied n
+abbrev pub placed_turn : Placed → Turn GridColour
+placed_turn (At c) = taken c
+placed_turn (Refused n) = denied n
 
 -- against a white
-abbrev pub turnIn : White → Reading → Turn GridColour
-turnIn w r = placedTurn (place w r)
+abbrev pub turn_in : White → Reading → Turn GridColour
+turn_in w r = placed_turn (place w r)
 
 -- THE COLOURS OF ALL CONES, OR THE FIRST REFUSED
-abbrev pub conesIn : White → List Reading → Turns GridColour
-conesIn w rs = in_turn (turnIn w) rs
+abbrev pub cones_in : White → List Reading → Turns GridColour
+cones_in w rs = in_turn (turn_in w) rs
 
 -- the colours of a delivery of which no cone is refused
-abbrev pub coloursOf : Turns GridColour → List GridColour
-coloursOf (whole cs) = cs
-coloursOf (refused n i) = []
+abbrev pub colours_of : Turns GridColour → List GridColour
+colours_of (whole cs) = cs
+colours_of (refused n i) = []
 
-abbrev pub coloursIn : White → List Reading → List GridColour
-coloursIn w rs = coloursOf (conesIn w rs)
+abbrev pub colours_in : White → List Reading → List GridColour
+colours_in w rs = colours_of (cones_in w rs)
 
 -- what stands past their end
-abbrev pub noColour : GridColour
-noColour = record { L = gridOf (pos 0); a = gridOf (pos 0); b = gridOf (pos 0) }
+abbrev pub no_colour : GridColour
+no_colour = record { L = grid_of (pos 0); a = grid_of (pos 0); b = grid_of (pos 0) }

@@ -40,10 +40,10 @@ module _ {W : Type 0} where
 
 module _ {P W : Type 0} (turn : P → Turn W) where
   -- of a list whose first element has the index i
-  unfoldable pub inTurnFrom : (i : ℕ) → List P → Turns W
-  inTurnFrom i [] = whole []
-  inTurnFrom i (p ∷ ps) =
-      either (turn p) (λ (v : W). after (v ∷ []) (inTurnFrom (suc i) ps)) (λ (n : ℕ). refused n i)
+  unfoldable pub in_turn_from : (i : ℕ) → List P → Turns W
+  in_turn_from i [] = whole []
+  in_turn_from i (p ∷ ps) =
+      either (turn p) (λ (v : W). after (v ∷ []) (in_turn_from (suc i) ps)) (λ (n : ℕ). refused n i)
 
   abbrev pub in_turn : List P → Turns W
-  in_turn ps = inTurnFrom 0 ps
+  in_turn ps = in_turn_from 0 ps

@@ -12,18 +12,18 @@ pub record Even {A : Type 0} (xs ys zs : List A) : Type 0 where
   pub zs-length : length zs ≡ length xs
 
 -- the same as a test
-unfoldable pub isEven : {A : Type 0} (xs ys zs : List A) → Bool
-isEven xs ys zs = eqb (length ys) (length xs) && eqb (length zs) (length xs)
+unfoldable pub is_even : {A : Type 0} (xs ys zs : List A) → Bool
+is_even xs ys zs = eqb (length ys) (length xs) && eqb (length zs) (length xs)
 
-pub even-of-test : {A : Type 0} (xs ys zs : List A) → isEven xs ys zs ≡ true → Even xs ys zs
-unfolding isEven
-even-of-test xs ys zs h =
+pub even_of_test : {A : Type 0} (xs ys zs : List A) → is_even xs ys zs ≡ true → Even xs ys zs
+unfolding is_even
+even_of_test xs ys zs h =
     let (p, q) = both_true (eqb (length ys) (length xs)) (eqb (length zs) (length xs)) h in
     record { ys-length = eqb-true _ _ p; zs-length = eqb-true _ _ q }
 
-pub test-of-even : {A : Type 0} (xs ys zs : List A) → Even xs ys zs → isEven xs ys zs ≡ true
-unfolding isEven
-test-of-even xs ys zs h = rw (eq-eqb _ _ h.ys-length, eq-eqb _ _ h.zs-length)
+pub test_of_even : {A : Type 0} (xs ys zs : List A) → Even xs ys zs → is_even xs ys zs ≡ true
+unfolding is_even
+test_of_even xs ys zs h = rw (eq-eqb _ _ h.ys-length, eq-eqb _ _ h.zs-length)
 
 -- and at most m
 pub record Counted {A : Type 0} (m : ℕ) (xs ys zs : List A) : Type 0 where
@@ -49,12 +49,12 @@ module _ {A B : Type 0} (f : A → A → A → B) where
   zip_length (x ∷ xs) (y ∷ ys) (z ∷ zs) h = ap suc (zip_length xs ys zs (even-rest h))
 
   -- element i is f of the three elements i
-  pub zip-at :
+  pub zip_at :
       (xs ys zs : List A) (i : ℕ) (d : A) (e : B) → Even xs ys zs → i < length xs →
       f (get_or xs i d) (get_or ys i d) (get_or zs i d) ≡ get_or (zip xs ys zs) i e
   unfolding zip
-  zip-at [] ys zs i d e h l = absurd (not-suc-le-zero l)
-  zip-at (x ∷ xs) [] zs i d e h l = absurd (omega (arith, h.ys-length))
-  zip-at (x ∷ xs) (y ∷ ys) [] i d e h l = absurd (omega (arith, h.zs-length))
-  zip-at (x ∷ xs) (y ∷ ys) (z ∷ zs) zero d e h l = refl
-  zip-at (x ∷ xs) (y ∷ ys) (z ∷ zs) (suc i) d e h l = zip-at xs ys zs i d e (even-rest h) (le_of_suc-le-suc l)
+  zip_at [] ys zs i d e h l = absurd (not-suc-le-zero l)
+  zip_at (x ∷ xs) [] zs i d e h l = absurd (omega (arith, h.ys-length))
+  zip_at (x ∷ xs) (y ∷ ys) [] i d e h l = absurd (omega (arith, h.zs-length))
+  zip_at (x ∷ xs) (y ∷ ys) (z ∷ zs) zero d e h l = refl
+  zip_at (x ∷ xs) (y ∷ ys) (z ∷ zs) (suc i) d e h l = zip_at xs ys zs i d e (even-rest h) (le_of_suc-le-suc l)

@@ -1,7 +1,7 @@
 // Three slices of one kind of reading: the cones of a delivery, each in turn.
 ghost use Rattle.std.specs.Prelude.{◌≡◌, ◌<◌, length, get_or};
-ghost use Rattle.cones.specs.Zip.{Even, isEven};
-ghost use Rattle.cones.specs.Cones.{reading_of, readingsOf, noReading, coloursIn, noColour};
+ghost use Rattle.cones.specs.Zip.{Even, is_even};
+ghost use Rattle.cones.specs.Cones.{reading_of, readings_of, no_reading, colours_in, no_colour};
 
 use colour::conversion::GridColour;
 use colour::placed::{Placed, Reading, place_reading};
@@ -17,7 +17,7 @@ pub enum Kind {
 
 // Whether three slices are of one length.
 pub fn is_even(xs: &[f64], ys: &[f64], zs: &[f64]) -> bool
-    ensures { result ≡ isEven xs.now ys.now zs.now }
+    ensures { result ≡ is_even xs.now ys.now zs.now }
 {
     if ys.len() != xs.len() {
         return false;
@@ -38,7 +38,7 @@ fn reading_of(kind: Kind, x: f64, y: f64, z: f64) -> Reading
 // The reading of cone i.
 pub fn reading_at(kind: Kind, xs: &[f64], ys: &[f64], zs: &[f64], i: usize) -> Reading
     requires { (Even xs.now ys.now zs.now) × (i < length xs.now) }
-    ensures { result ≡ get_or (readingsOf kind xs.now ys.now zs.now) i noReading }
+    ensures { result ≡ get_or (readings_of kind xs.now ys.now zs.now) i no_reading }
 {
     reading_of(kind, xs[i], ys[i], zs[i])
 }
@@ -53,9 +53,9 @@ pub fn colour_at(
     i: usize,
 ) -> GridColour
     requires { (Even xs.now ys.now zs.now)
-        × (i < length (coloursIn white (readingsOf kind xs.now ys.now zs.now))) }
+        × (i < length (colours_in white (readings_of kind xs.now ys.now zs.now))) }
     ensures { result
-        ≡ get_or (coloursIn white (readingsOf kind xs.now ys.now zs.now)) i noColour }
+        ≡ get_or (colours_in white (readings_of kind xs.now ys.now zs.now)) i no_colour }
 {
     match place_reading(reading_at(kind, xs, ys, zs, i), white) {
         Placed::At(colour) => colour,

@@ -5,16 +5,16 @@ use Rattle.delivery.specs.declared.farthest.Far.{Far}
 pub mod Laws
 
 -- of two that are as far, the one before
-unfoldable pub fartherOf : Far → (d i : ℕ) → Far
-fartherOf f d i = cond (ltb f.most d) (record { most = d; at = i }) f
+unfoldable pub farther_of : Far → (d i : ℕ) → Far
+farther_of f d i = cond (ltb f.most d) (record { most = d; at = i }) f
 
 -- after f, of a list whose first number has the index i
-unfoldable pub farthestFrom : Far → (i : ℕ) → List ℕ → Far
-farthestFrom f i [] = f
-farthestFrom f i (d ∷ ds) = farthestFrom (fartherOf f d i) (suc i) ds
+unfoldable pub farthest_from : Far → (i : ℕ) → List ℕ → Far
+farthest_from f i [] = f
+farthest_from f i (d ∷ ds) = farthest_from (farther_of f d i) (suc i) ds
 
-abbrev pub nothingYet : Far
-nothingYet = record { most = 0; at = 0 }
+abbrev pub nothing_yet : Far
+nothing_yet = record { most = 0; at = 0 }
 
 abbrev pub farthest : List ℕ → Far
-farthest ds = farthestFrom nothingYet 0 ds
+farthest ds = farthest_from nothing_yet 0 ds

@@ -1,22 +1,22 @@
 -- docs/SCOPE.md 13: what a sort answers, and what it leaves in the lent slice. Assumes nothing.
 use Rattle.std.specs.Prelude.{◌≡◌, Bool, not, cond, ◌&&◌, List, [], ◌∷◌, map, ℕ, ◌≤◌, leb, eqb, Float, pos, length}
 use Rattle.reading.specs.Grid.{value_of}
-use Rattle.colour.specs.White.{whiteNumbered}
+use Rattle.colour.specs.White.{white_numbered}
 use Rattle.colour.specs.declared.conversion.GridColour.{GridColour}
 use Rattle.colour.specs.declared.placed.Reading.{Reading}
 use Rattle.colour.specs.declared.white.Numbered.{Numbered}
 use Rattle.colour.specs.declared.white.Numbered.TheVariants as W
 use Rattle.colour.specs.declared.white.White.{White}
-use Rattle.sheet.specs.Settings.{within, isFactor, Factor}
-use Rattle.cones.specs.Zip.{Even, isEven}
+use Rattle.sheet.specs.Settings.{within, is_factor, Factor}
+use Rattle.cones.specs.Zip.{Even, is_even}
 use Rattle.cones.specs.InTurn.{Turns, whole, refused, number_of}
-use Rattle.cones.specs.Cones.{readingsOf, conesIn}
+use Rattle.cones.specs.Cones.{readings_of, cones_in}
 use Rattle.cones.specs.declared.Kind.{Kind}
-use Rattle.standard.specs.Acceptance.{noWhite}
+use Rattle.standard.specs.Acceptance.{no_white}
 use Rattle.standard.specs.Figures.{zero}
-use Rattle.standard.specs.Refusals.{Fault, fault, refusal, atCount, atWhite, atL, atC, atTest}
+use Rattle.standard.specs.Refusals.{Fault, fault, refusal, at_count, at_white, at_l, at_c, at_test}
 use Rattle.delivery.specs.declared.sorted.Sorted.{Sorted}
-use Rattle.delivery.specs.Delivery.{meanColour, differences}
+use Rattle.delivery.specs.Delivery.{mean_colour, differences}
 use Rattle.delivery.specs.Farthest.{farthest}
 use Rattle.delivery.specs.Written.{written}
 pub mod Laws
@@ -27,8 +27,8 @@ pub mod Facts
 -- ---- refusals: 11, 2, 3 for l, 3 for c, then each cone in turn
 
 -- 2 to 256 cones, as many in each list, and an entry of the result for each
-unfoldable pub isShaped : (xs ys zs : List Float) (room : ℕ) → Bool
-isShaped xs ys zs room = within 2 256 (length xs) && leb (length xs) room && isEven xs ys zs
+unfoldable pub is_shaped : (xs ys zs : List Float) (room : ℕ) → Bool
+is_shaped xs ys zs room = within 2 256 (length xs) && leb (length xs) room && is_even xs ys zs
 
 pub record Shaped (xs ys zs : List Float) (room : ℕ) : Type 0 where
   pub some : 2 ≤ length xs
@@ -36,40 +36,40 @@ pub record Shaped (xs ys zs : List Float) (room : ℕ) : Type 0 where
   pub enough : length xs ≤ room
   pub even : Even xs ys zs
 
-unfoldable pub areFactors : (l c : ℕ) → Bool
-areFactors l c = isFactor l && isFactor c
+unfoldable pub are_factors : (l c : ℕ) → Bool
+are_factors l c = is_factor l && is_factor c
 
-abbrev pub callFaults : (shaped : Bool) (white l c : ℕ) → List Fault
-callFaults shaped white l c =
-    fault atCount 11 (not shaped) ∷ fault atWhite 2 (noWhite (whiteNumbered white)) ∷ fault atL 3 (not (isFactor l))
-    ∷ fault atC 3 (not (isFactor c)) ∷ []
+abbrev pub call_faults : (shaped : Bool) (white l c : ℕ) → List Fault
+call_faults shaped white l c =
+    fault at_count 11 (not shaped) ∷ fault at_white 2 (no_white (white_numbered white)) ∷ fault at_l 3 (not (is_factor l))
+    ∷ fault at_c 3 (not (is_factor c)) ∷ []
 
 -- where there is no such white, there is none to read in
-abbrev pub conesNumbered : Numbered → List Reading → Turns GridColour
-conesNumbered (W.Is w) rs = conesIn w rs
-conesNumbered W.Unknown rs = whole []
+abbrev pub cones_numbered : Numbered → List Reading → Turns GridColour
+cones_numbered (W.Is w) rs = cones_in w rs
+cones_numbered W.Unknown rs = whole []
 
 -- all faults: the first refused cone's stands at the test specimen's place
-unfoldable pub sortFaults : (shaped : Bool) (white l c : ℕ) → List Reading → List Fault
-sortFaults shaped white l c rs =
-    record { place = atTest; number = number_of (conesNumbered (whiteNumbered white) rs) } ∷ callFaults shaped white l c
+unfoldable pub sort_faults : (shaped : Bool) (white l c : ℕ) → List Reading → List Fault
+sort_faults shaped white l c rs =
+    record { place = at_test; number = number_of (cones_numbered (white_numbered white) rs) } ∷ call_faults shaped white l c
 
 -- the colours of all cones, or the first refusal's number with the refused cone
 unfoldable pub delivered : (shaped : Bool) (white l c : ℕ) → List Reading → Turns GridColour
 delivered shaped white l c rs =
-    let n : ℕ = refusal (callFaults shaped white l c) in
-    cond (eqb n 0) (conesNumbered (whiteNumbered white) rs) (refused n 0)
+    let n : ℕ = refusal (call_faults shaped white l c) in
+    cond (eqb n 0) (cones_numbered (white_numbered white) rs) (refused n 0)
 
 -- ---- what is handed back
 
 -- a refusal, with the cone that it is of
-abbrev pub refusedWith : (number cone : ℕ) → Sorted
-refusedWith n i = record { number = n; cone = i; lightness = zero; a = zero; b = zero; farthest = 0; cones = 0 }
+abbrev pub refused_with : (number cone : ℕ) → Sorted
+refused_with n i = record { number = n; cone = i; lightness = zero; a = zero; b = zero; farthest = 0; cones = 0 }
 
 module _ (l c : ℕ) where
-  unfoldable pub sortedOf : List GridColour → Sorted
-  sortedOf cs =
-      let M : GridColour = meanColour cs in
+  unfoldable pub sorted_of : List GridColour → Sorted
+  sorted_of cs =
+      let M : GridColour = mean_colour cs in
       record {
         number = 0;
         cone = 0;
@@ -81,32 +81,32 @@ module _ (l c : ℕ) where
       }
 
   abbrev pub answer_of : Turns GridColour → Sorted
-  answer_of (whole cs) = sortedOf cs
-  answer_of (refused n i) = refusedWith n i
+  answer_of (whole cs) = sorted_of cs
+  answer_of (refused n i) = refused_with n i
 
   -- DE of each cone as a float
   abbrev pub figures : List GridColour → List Float
   figures cs = map (λ (d : ℕ). value_of (pos d)) (differences l c cs)
 
   -- each cone's from the start of the lent list, the rest kept; a refusal leaves all of it
-  abbrev pub leftIn : List Float → Turns GridColour → List Float
-  leftIn de (whole cs) = written (figures cs) de
-  leftIn de (refused n i) = de
+  abbrev pub left_in : List Float → Turns GridColour → List Float
+  left_in de (whole cs) = written (figures cs) de
+  left_in de (refused n i) = de
 
 -- the answer r and the list ys afterwards are those of what the delivery came to
 pub record Gives (l c : ℕ) (t : Turns GridColour) (de : List Float) (r : Sorted) (ys : List Float) : Type 0 where
   pub answer : r ≡ answer_of l c t
-  pub left : ys ≡ leftIn l c de t
+  pub left : ys ≡ left_in l c de t
 
 -- ---- the calls
 
 module _ (k : Kind) (white l c : ℕ) (xs ys zs : List Float) where
   -- THE CALL
-  abbrev pub sortCall : (room : ℕ) → Turns GridColour
-  sortCall room = delivered (isShaped xs ys zs room) white l c (readingsOf k xs ys zs)
+  abbrev pub sort_call : (room : ℕ) → Turns GridColour
+  sort_call room = delivered (is_shaped xs ys zs room) white l c (readings_of k xs ys zs)
 
   abbrev pub Sorts : (de : List Float) (r : Sorted) (left : List Float) → Type 0
-  Sorts de r left = Gives l c (sortCall (length de)) de r left
+  Sorts de r left = Gives l c (sort_call (length de)) de r left
 
 -- what was tested before the cones
 pub record CallIn (l c : ℕ) (xs ys zs de : List Float) : Type 0 where
@@ -116,4 +116,4 @@ pub record CallIn (l c : ℕ) (xs ys zs de : List Float) : Type 0 where
 
 abbrev pub SortsIn :
     Kind → White → (l c : ℕ) (xs ys zs de : List Float) (r : Sorted) (left : List Float) → Type 0
-SortsIn k w l c xs ys zs de r left = Gives l c (conesIn w (readingsOf k xs ys zs)) de r left
+SortsIn k w l c xs ys zs de r left = Gives l c (cones_in w (readings_of k xs ys zs)) de r left

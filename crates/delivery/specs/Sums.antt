@@ -1,15 +1,15 @@
 -- Sums of L*, a* and b* over a delivery, as the code works them out. Assumes nothing.
 use Rattle.std.specs.Prelude.{List, ℕ, ◌^◌, ◌≤◌, ◌<◌, ◌+ℤ◌}
-use Rattle.rounding.specs.Mean.{sum, meanOf}
+use Rattle.rounding.specs.Mean.{sum, mean_of}
 use Rattle.rounding.specs.Signed.{∣◌∣}
-use Rattle.reading.specs.Grid.{gridOf}
+use Rattle.reading.specs.Grid.{grid_of}
 use Rattle.colour.specs.Conversion.Ranges.{OnGrid}
 use Rattle.colour.specs.declared.conversion.GridColour.{GridColour}
 use Rattle.cones.specs.InTurn.{Turns, whole, refused}
 use Rattle.delivery.specs.declared.mean.Sums.{Sums}
 use Rattle.delivery.specs.declared.mean.Summed.{Summed}
 use Rattle.delivery.specs.declared.mean.Summed.TheVariants.{Of, Refused}
-use Rattle.delivery.specs.Delivery.{unitsOf}
+use Rattle.delivery.specs.Delivery.{units_of}
 pub mod Laws
 
 -- each at most m in magnitude
@@ -23,15 +23,15 @@ pub record Adds (s : Sums) (c : GridColour) : Type 0 where
   pub sums : AtMost (2 ^ 36) s
   pub colour : OnGrid c
 
-abbrev pub withColour : Sums → GridColour → Sums
-withColour s c = record { L = s.L +ℤ c.L.0; a = s.a +ℤ c.a.0; b = s.b +ℤ c.b.0 }
+abbrev pub with_colour : Sums → GridColour → Sums
+with_colour s c = record { L = s.L +ℤ c.L.0; a = s.a +ℤ c.a.0; b = s.b +ℤ c.b.0 }
 
-unfoldable pub sumsOf : List GridColour → Sums
-sumsOf cs =
-    record { L = sum (unitsOf (λ c. c.L) cs); a = sum (unitsOf (λ c. c.a) cs); b = sum (unitsOf (λ c. c.b) cs) }
+unfoldable pub sums_of : List GridColour → Sums
+sums_of cs =
+    record { L = sum (units_of (λ c. c.L) cs); a = sum (units_of (λ c. c.a) cs); b = sum (units_of (λ c. c.b) cs) }
 
 abbrev pub summed : Turns GridColour → Summed
-summed (whole cs) = Of (sumsOf cs)
+summed (whole cs) = Of (sums_of cs)
 summed (refused n i) = Refused n i
 
 -- such sums, and how many cones they are of
@@ -40,5 +40,5 @@ pub record Shares (s : Sums) (n : ℕ) : Type 0 where
   pub few : n ≤ 256
   pub sums : AtMost (2 ^ 36) s
 
-abbrev pub meanOfSums : Sums → (n : ℕ) → GridColour
-meanOfSums s n = record { L = gridOf (meanOf s.L n); a = gridOf (meanOf s.a n); b = gridOf (meanOf s.b n) }
+abbrev pub mean_of_sums : Sums → (n : ℕ) → GridColour
+mean_of_sums s n = record { L = grid_of (mean_of s.L n); a = grid_of (mean_of s.a n); b = grid_of (mean_of s.b n) }

@@ -15,12 +15,12 @@ pub record Writing {A : Type 0} (s d : List A) (i : ℕ) (now : List A) : Type 0
   pub same_length : length now ≡ length d
 
 module _ {A : Type 0} (s d : List A) (enough : length s ≤ length d) where
-  pub writing-none : Writing s d 0 d
-  writing-none = record { is = refl; within = omega arith; same_length = refl }
+  pub writing_none : Writing s d 0 d
+  writing_none = record { is = refl; within = omega arith; same_length = refl }
 
   module _ {i : ℕ} {now : List A} (k : Writing s d i now) where
-    pub writing-all : length s ≤ i → now ≡ written s d
-    writing-all h =
+    pub writing_all : length s ≤ i → now ≡ written s d
+    writing_all h =
         let e : i ≡ length s = le_antisymm k.within h in
         k.is ∙ ap (λ (r : List A). r ++ drop i d) (take_all i s h) ∙ ap (λ (n : ℕ). s ++ drop n d) e
 

@@ -2,9 +2,9 @@
 ghost use Rattle.std.specs.Prelude.{◌≡◌, ◌^◌, ◌<◌, pos};
 ghost use Rattle.reading.specs.Grid.{value_of};
 ghost use Rattle.sheet.specs.Ranges.{InRange};
-ghost use Rattle.cones.specs.Cones.{readingsOf, coloursIn};
-ghost use Rattle.delivery.specs.Farthest.{fartherOf};
-ghost use Rattle.delivery.specs.Delivery.{differenceFrom, differencesFrom};
+ghost use Rattle.cones.specs.Cones.{readings_of, colours_in};
+ghost use Rattle.delivery.specs.Farthest.{farther_of};
+ghost use Rattle.delivery.specs.Delivery.{difference_from, differences_from};
 ghost use Rattle.delivery.specs.Room.{Room, Figures};
 
 use colour::conversion::GridColour;
@@ -23,7 +23,7 @@ pub struct Far {
 
 // The farther of the two; of two that are as far, the one before.
 fn farther(f: Far, d: u64, i: u32) -> Far
-    ensures { result ≡ fartherOf f d i }
+    ensures { result ≡ farther_of f d i }
 {
     if f.most < d {
         Far { most: d, at: i }
@@ -35,7 +35,7 @@ fn farther(f: Far, d: u64, i: u32) -> Far
 // The DE of a cone, with the mean as reference.
 fn difference_from(l: u64, c: u64, mean: GridColour, cone: GridColour) -> u64
     requires { InRange l c mean cone }
-    ensures { result ≡ differenceFrom l c mean cone }
+    ensures { result ≡ difference_from l c mean cone }
 {
     let found = comparison_of(Formula::CMC, l, c, mean, cone);
     let differences = found.differences;
@@ -63,10 +63,10 @@ pub(crate) fn write_differences(
     de: &mut [f64],
 ) -> Far
     requires { Room l c mean xs.now ys.now zs.now
-        (coloursIn white (readingsOf kind xs.now ys.now zs.now)) de.old }
+        (colours_in white (readings_of kind xs.now ys.now zs.now)) de.old }
     ensures { Figures
-        (differencesFrom l c mean
-        (coloursIn white (readingsOf kind xs.now ys.now zs.now)))
+        (differences_from l c mean
+        (colours_in white (readings_of kind xs.now ys.now zs.now)))
         de.old result de.new }
 {
     let mut far = Far { most: 0, at: 0 };

@@ -1,8 +1,8 @@
 // SCOPE 13.2: the mean colour of a delivery, or its first refusal.
 ghost use Rattle.std.specs.Prelude.{◌≡◌};
 ghost use Rattle.cones.specs.Zip.{Counted};
-ghost use Rattle.cones.specs.Cones.{readingsOf, conesIn};
-ghost use Rattle.delivery.specs.Sums.{Adds, withColour, summed, Shares, meanOfSums};
+ghost use Rattle.cones.specs.Cones.{readings_of, cones_in};
+ghost use Rattle.delivery.specs.Sums.{Adds, with_colour, summed, Shares, mean_of_sums};
 
 use colour::conversion::GridColour;
 use colour::placed::{Placed, place_reading};
@@ -29,7 +29,7 @@ pub enum Summed {
 // The sums with one cone more.
 fn with_colour(s: Sums, c: GridColour) -> Sums
     requires { Adds s c }
-    ensures { result ≡ withColour s c }
+    ensures { result ≡ with_colour s c }
 {
     Sums {
         L: s.L + c.L.0,
@@ -42,7 +42,7 @@ fn with_colour(s: Sums, c: GridColour) -> Sums
 pub(crate) fn sum_of(kind: Kind, white: White, xs: &[f64], ys: &[f64], zs: &[f64]) -> Summed
     requires { Counted 256 xs.now ys.now zs.now }
     ensures { result
-        ≡ summed (conesIn white (readingsOf kind xs.now ys.now zs.now)) }
+        ≡ summed (cones_in white (readings_of kind xs.now ys.now zs.now)) }
 {
     let mut sums = Sums { L: 0, a: 0, b: 0 };
     let mut i = 0;
@@ -64,7 +64,7 @@ pub(crate) fn sum_of(kind: Kind, white: White, xs: &[f64], ys: &[f64], zs: &[f64
 // The mean colour of n cones.
 pub(crate) fn mean_colour(s: Sums, n: u64) -> GridColour
     requires { Shares s n }
-    ensures { result ≡ meanOfSums s n }
+    ensures { result ≡ mean_of_sums s n }
 {
     GridColour {
         L: Grid(mean_of(s.L, n)),

@@ -1,6 +1,6 @@
 // SCOPE 13: the whole call.
 ghost use Rattle.std.specs.Prelude.{◌≡◌};
-ghost use Rattle.delivery.specs.Sorted.{refusedWith, isShaped, areFactors, CallIn, Sorts, SortsIn};
+ghost use Rattle.delivery.specs.Sorted.{refused_with, is_shaped, are_factors, CallIn, Sorts, SortsIn};
 
 use crate::farthest::write_differences;
 use crate::mean::{Summed, mean_colour, sum_of};
@@ -25,7 +25,7 @@ pub struct Sorted {
 
 // A refusal, with the cone that it is of.
 fn refused(number: u32, cone: u32) -> Sorted
-    ensures { result ≡ refusedWith number cone }
+    ensures { result ≡ refused_with number cone }
 {
     Sorted {
         number: number,
@@ -40,7 +40,7 @@ fn refused(number: u32, cone: u32) -> Sorted
 
 // Whether there are 2 to 256 cones, as many in each slice, and a result has room for each.
 fn is_shaped(xs: &[f64], ys: &[f64], zs: &[f64], room: usize) -> bool
-    ensures { result ≡ isShaped xs.now ys.now zs.now room }
+    ensures { result ≡ is_shaped xs.now ys.now zs.now room }
 {
     if xs.len() < 2 {
         return false;
@@ -56,7 +56,7 @@ fn is_shaped(xs: &[f64], ys: &[f64], zs: &[f64], room: usize) -> bool
 
 // Whether l and c lie in their range.
 fn are_factors(l: u64, c: u64) -> bool
-    ensures { result ≡ areFactors l c }
+    ensures { result ≡ are_factors l c }
 {
     if !is_factor(l) {
         return false;

@@ -20,17 +20,17 @@ use Rattle.sheet.specs.Sheet.{sheet, verdict}
 use Rattle.sheet.specs.declared.formula.Formula.{Formula}
 use Rattle.sheet.specs.declared.formula.Formula.TheVariants.{CMC}
 use Rattle.sheet.specs.declared.verdict.Verdict.TheVariants.{Near, Pass, Fail}
-use Rattle.finer.specs.Finer.{VerdictKept, no-finer-sheet-changes-a-verdict}
+use Rattle.finer.specs.Finer.{VerdictKept, no_finer_sheet_changes_a_verdict}
 use Rattle.cones.specs.declared.Kind.{Kind}
-use Rattle.delivery.specs.Delivery.{differenceFrom}
-use Rattle.delivery.specs.Sorted.Exact.{Delivery, mean, cone, DE as DE-of, cone-on-grid, mean-in-range}
-use Rattle.ticket.specs.Ticket.{ticketOf}
-use Rattle.standard.specs.Judgement.{judgementOf, Specimen}
-use Rattle.standard.specs.Judgement.Laws.{verdict-is}
+use Rattle.delivery.specs.Delivery.{difference_from}
+use Rattle.delivery.specs.Sorted.Exact.{Delivery, mean, cone, DE as DE-of, cone_on_grid, mean_in_range}
+use Rattle.ticket.specs.Ticket.{ticket_of}
+use Rattle.standard.specs.Judgement.{judgement_of, Specimen}
+use Rattle.standard.specs.Judgement.Laws.{verdict_is}
 use Rattle.standard.specs.declared.judge.Judgement.{Judgement}
 use Rattle.standard.specs.declared.judge.Outcome.TheVariants.{Judged}
 use Rattle.station.specs.Record.{decode}
-use Rattle.calls.specs.Outcome.{judgedBy, ticketOutcome}
+use Rattle.calls.specs.Outcome.{judged_by, ticket_outcome}
 use Rattle.calls.specs.Outcome.Judge.{judged-said}
 use Rattle.calls.specs.Outcome.Ticket.{ticket-said}
 
@@ -38,41 +38,41 @@ use Rattle.calls.specs.Outcome.Ticket.{ticket-said}
 
 module _
     (formula : Formula) {l c tolerance : ℕ} {R T : GridColour}
-    (l-in : Factor l) (c-in : Factor c) (tolerance-in : Tolerance tolerance) (R-on : OnGrid R) (T-on : OnGrid T)
+    (l_in : Factor l) (c_in : Factor c) (tolerance-in : Tolerance tolerance) (R-on : OnGrid R) (T-on : OnGrid T)
   where
     abbrev DE : ℕ → ℕ
     DE n = (sheet n formula l c R T).DE
 
     kept : (n : ℕ) → 20 ≤ n → VerdictKept n tolerance (DE 20) (DE n)
     kept n from20 =
-        no-finer-sheet-changes-a-verdict formula
-        (record { lightness = l-in; chroma = c-in; reference = R-on; specimen = T-on }) tolerance-in n from20
+        no_finer_sheet_changes_a_verdict formula
+        (record { lightness = l_in; chroma = c_in; reference = R-on; specimen = T-on }) tolerance-in n from20
 
     -- A PASS STAYS UNDER THE TOLERANCE
-    pub a-pass-stays-under : verdict 20 tolerance (DE 20) ≡ Pass → (n : ℕ) → 20 ≤ n → 1000 * DE n < tolerance * 2 ^ n
-    a-pass-stays-under said n from20 = (kept n from20).passes said
+    pub a_pass_stays_under : verdict 20 tolerance (DE 20) ≡ Pass → (n : ℕ) → 20 ≤ n → 1000 * DE n < tolerance * 2 ^ n
+    a_pass_stays_under said n from20 = (kept n from20).passes said
 
     -- AND A FAIL OVER IT
-    pub a-fail-stays-over : verdict 20 tolerance (DE 20) ≡ Fail → (n : ℕ) → 20 ≤ n → tolerance * 2 ^ n < 1000 * DE n
-    a-fail-stays-over said n from20 = (kept n from20).fails said
+    pub a_fail_stays_over : verdict 20 tolerance (DE 20) ≡ Fail → (n : ℕ) → 20 ≤ n → tolerance * 2 ^ n < 1000 * DE n
+    a_fail_stays_over said n from20 = (kept n from20).fails said
 
     -- NEAR IS SAID EXACTLY WHEN OUR DE LIES WITHIN 0.002 OF THE TOLERANCE, both ends counted
-    pub near-is-within : verdict 20 tolerance (DE 20) ≡ Near → apart (1000 * DE 20) (tolerance * 2 ^ 20) ≤ 2 * 2 ^ 20
-    near-is-within = (kept 20 (omega arith)).near_within
+    pub near_is_within : verdict 20 tolerance (DE 20) ≡ Near → apart (1000 * DE 20) (tolerance * 2 ^ 20) ≤ 2 * 2 ^ 20
+    near_is_within = (kept 20 (omega arith)).near_within
 
-    pub within-is-near : apart (1000 * DE 20) (tolerance * 2 ^ 20) ≤ 2 * 2 ^ 20 → verdict 20 tolerance (DE 20) ≡ Near
-    within-is-near = (kept 20 (omega arith)).within-near
+    pub within_is_near : apart (1000 * DE 20) (tolerance * 2 ^ 20) ≤ 2 * 2 ^ 20 → verdict 20 tolerance (DE 20) ≡ Near
+    within_is_near = (kept 20 (omega arith)).within-near
 
     -- WHERE OUR DE IS AT MOST 10, NO FINER SHEET MOVES IT BY 0.002 OR MORE
-    pub moves-by-less :
+    pub moves_by_less :
         DE 20 ≤ 10 * 2 ^ 20 → (n : ℕ) → 20 ≤ n → 1000 * apart (DE n) (2 ^ (n - 20) * DE 20) < 2 * 2 ^ n
-    moves-by-less small n from20 = (kept n from20).unmoved small
+    moves_by_less small n from20 = (kept n from20).unmoved small
 
 -- ---- of every verdict that is given
 
 -- the verdict is the sheet's at 20 places, and all that it is given by lies in the ranges above
 pub record Given (j : Judgement) : Type 0 where
-  pub verdict-is :
+  pub verdict_is :
       j.verdict
       ≡ verdict 20 j.standard.settings.tolerance
       (sheet 20 j.standard.settings.formula j.standard.settings.l j.standard.settings.c
@@ -83,12 +83,12 @@ pub record Given (j : Judgement) : Type 0 where
   pub R : OnGrid j.standard.colour
   pub T : OnGrid j.test
 
-given : {j : Judgement} → j ≡ judgementOf j.standard j.test → Specimen j.standard j.test → Given j
-unfolding judgementOf
+given : {j : Judgement} → j ≡ judgement_of j.standard j.test → Specimen j.standard j.test → Given j
+unfolding judgement_of
 given {j} is asked =
     subst (λ (k : Judgement). Given k) (sym is)
     (record {
-      verdict-is = verdict-is j.standard j.test;
+      verdict_is = verdict_is j.standard j.test;
       l = asked.standard.l;
       c = asked.standard.c;
       tolerance = asked.standard.tolerance;
@@ -97,39 +97,39 @@ given {j} is asked =
     })
 
 -- A JUDGEMENT'S, whatever the slice holds and whatever is read
-pub judgement-given : (xs : List ℕ) (r : Reading) {j : Judgement} → judgedBy (decode xs) r ≡ Judged j → Given j
+pub judgement-given : (xs : List ℕ) (r : Reading) {j : Judgement} → judged_by (decode xs) r ≡ Judged j → Given j
 judgement-given xs r e = let said = judged-said xs r e in given said.is said.asked
 
 -- A TICKET'S, whatever its text is
-pub ticket-given : (text : List ℕ) {j : Judgement} → ticketOutcome (ticketOf text) ≡ Judged j → Given j
-ticket-given text e = let said = ticket-said (ticketOf text) e in given said.is said.asked
+pub ticket-given : (text : List ℕ) {j : Judgement} → ticket_outcome (ticket_of text) ≡ Judged j → Given j
+ticket-given text e = let said = ticket-said (ticket_of text) e in given said.is said.asked
 
 -- ---- of every cone that is sorted
 
 -- the sheet of cone i against the mean, at n places
-abbrev pub coneDE :
+abbrev pub cone_de :
     {k : Kind} {white l c : ℕ} {xs ys zs de : List Float} → Delivery k white l c xs ys zs de → (i n : ℕ) → ℕ
-coneDE {l = l} {c = c} d i n = (sheet n CMC l c (mean d) (cone d i)).DE
+cone_de {l = l} {c = c} d i n = (sheet n CMC l c (mean d) (cone d i)).DE
 
 -- A CONE'S, against the mean as it stands on the grid, whatever is sorted, and at any tolerance that it is held to
 pub cone-kept :
     {k : Kind} {white l c : ℕ} {xs ys zs de : List Float} (d : Delivery k white l c xs ys zs de) (i : ℕ) →
     i < length xs → {tolerance : ℕ} → Tolerance tolerance → (n : ℕ) → 20 ≤ n →
-    VerdictKept n tolerance (coneDE d i 20) (coneDE d i n)
-cone-kept d i few in-range n from20 =
-    kept CMC d.call.lightness d.call.chroma in-range (mean-in-range d) (cone-on-grid d i few) n from20
+    VerdictKept n tolerance (cone_de d i 20) (cone_de d i n)
+cone-kept d i few in_range n from20 =
+    kept CMC d.call.lightness d.call.chroma in_range (mean_in_range d) (cone_on_grid d i few) n from20
 
 -- SO WHERE ITS DE IS AT MOST 10, NO FINER SHEET MOVES IT BY 0.002 OR MORE
-pub cone-moves-by-less :
+pub cone_moves_by_less :
     {k : Kind} {white l c : ℕ} {xs ys zs de : List Float} (d : Delivery k white l c xs ys zs de) (i : ℕ) →
-    i < length xs → coneDE d i 20 ≤ 10 * 2 ^ 20 → (n : ℕ) → 20 ≤ n →
-    1000 * apart (coneDE d i n) (2 ^ (n - 20) * coneDE d i 20) < 2 * 2 ^ n
-cone-moves-by-less d i few small n from20 =
+    i < length xs → cone_de d i 20 ≤ 10 * 2 ^ 20 → (n : ℕ) → 20 ≤ n →
+    1000 * apart (cone_de d i n) (2 ^ (n - 20) * cone_de d i 20) < 2 * 2 ^ n
+cone_moves_by_less d i few small n from20 =
     (cone-kept d i few {tolerance = 1000} (record { low = omega arith; high = omega arith }) n from20).unmoved small
 
--- and the DE that a sort hands back of cone i is this one at 20 places (`sorted-as`, Demand2.antt)
-pub handed-back-at-20 :
+-- and the DE that a sort hands back of cone i is this one at 20 places (`sorted_as`, Demand2.antt)
+pub handed_back_at_20 :
     {k : Kind} {white l c : ℕ} {xs ys zs de : List Float} (d : Delivery k white l c xs ys zs de) (i : ℕ) →
-    DE-of d i ≡ coneDE d i 20
-unfolding differenceFrom
-handed-back-at-20 d i = refl
+    DE-of d i ≡ cone_de d i 20
+unfolding difference_from
+handed_back_at_20 d i = refl

@@ -9,7 +9,7 @@ use Rattle.rounding.specs.Fraction.{LooseFraction}
 use Rattle.rounding.specs.Root.{LooseRoot}
 use Rattle.rounding.specs.Root.Laws.{square-low, square-high}
 use Rattle.sheet.specs.Settings.{Factor}
-use Rattle.finer.specs.Products.{le-of-mul-le, square_le, le-of-square-le}
+use Rattle.finer.specs.Products.{le_of_mul_le, square_le, le_of_square_le}
 use Rattle.finer.specs.Loose.{unit, Data, Quantities, LooseDifferences}
 use Rattle.finer.specs.Close.{Close}
 
@@ -21,8 +21,8 @@ DL-le :
     0 < l → 0 < SL2 → 10000 * SL1 ≤ 10001 * SL2 → LooseFraction K p (l * SL1) DL1 → LooseFraction K p (l * SL2) DL2 →
     10000 * DL2 ≤ 10001 * (DL1 + K)
 DL-le K l p SL1 SL2 DL1 DL2 some-l some-SL ratio one two =
-    let weighed : DL2 * SL2 ≤ (DL1 + K) * SL1 = le-of-mul-le l some-l (omega (arith, two.low, one.high)) in
-    le-of-mul-le SL2 some-SL (omega (arith, mul-le-mul_right (DL1 + K) ratio))
+    let weighed : DL2 * SL2 ≤ (DL1 + K) * SL1 = le_of_mul_le l some-l (omega (arith, two.low, one.high)) in
+    le_of_mul_le SL2 some-SL (omega (arith, mul-le-mul_right (DL1 + K) ratio))
 
 -- ---- DC
 
@@ -33,12 +33,12 @@ DC-le :
     LooseFraction K (1000 * N * d1) (c * SC1) DC1 → LooseFraction K (1000 * N * d2) (c * SC2) DC2 →
     10000 * DC2 ≤ 10001 * (DC1 + 9 * K)
 DC-le K N c d1 d2 SC1 SC2 DC1 DC2 low-c some-SC low-SC near ratio one two =
-    le-of-mul-le SC2 some-SC (omega (arith, weighed, mul-le-mul_right (DC1 + 9 * K) ratio))
+    le_of_mul_le SC2 some-SC (omega (arith, weighed, mul-le-mul_right (DC1 + 9 * K) ratio))
   where
     weighed : DC2 * SC2 ≤ (DC1 + 9 * K) * SC1
     weighed =
         let at_least_lem = mul-le-mul_right (K * SC1) low-c in
-        le-of-mul-le c (omega arith)
+        le_of_mul_le c (omega arith)
         (omega (arith, two.low, one.high, mul-le-mul_right N near, mul-le-mul_right K low-SC, at_least_lem))
 
 -- 5.3; c up to 10: DC is at least a tenth of ΔC / SC
@@ -69,14 +69,14 @@ DC-le K N c d1 d2 SC1 SC2 DC1 DC2 low-c some-SC low-SC near ratio one two =
 ΔH-le-DH K N SH H DH low-SH one = omega (arith, one.high, mul-le-mul_right K low-SH)
 
 -- 5.7: the error of ΔH², by SH of the second sheet
-error-le :
+error_le :
     (K N c d SC SH DC : ℕ) →
     c ≤ 10000 → N ≤ 7 * SH → SC ≤ 4 * SH → LooseFraction K (1000 * N * d) (c * SC) DC →
     4 * K * d * (N * N) ≤ 1120 * (K * (DC + K)) * (SH * SH)
-error-le K N c d SC SH DC high-c low-SH SC≤4SH one =
-    let semi-axes : N * SC ≤ 28 * (SH * SH) = omega (arith, mul-le-mul_right SC low-SH, mul-le-mul_right SH SC≤4SH) in
-    let by-DC = ΔC-le-DC K N c d SC DC high-c one in
-    omega (arith, mul-le-mul_right (K * N) by-DC, mul-le-mul_right (K * (DC + K)) semi-axes)
+error_le K N c d SC SH DC high-c low-SH SC≤4SH one =
+    let semi_axes_lem : N * SC ≤ 28 * (SH * SH) = omega (arith, mul-le-mul_right SC low-SH, mul-le-mul_right SH SC≤4SH) in
+    let by_DC = ΔC-le-DC K N c d SC DC high-c one in
+    omega (arith, mul-le-mul_right (K * N) by_DC, mul-le-mul_right (K * (DC + K)) semi_axes_lem)
 
 -- 5.8; h is DH1 + 8 K and e is 1120 K (DC1 + K), as letters so that no product grows long. 100020001 is 10001²
 DH-square-le :
@@ -85,7 +85,7 @@ DH-square-le :
     H2 * H2 ≤ (H1 + K) * (H1 + K) + 4 * K * d1 → 4 * K * d1 * (N * N) ≤ e * (SH2 * SH2) →
     10000 * DH2 * (10000 * DH2) ≤ 100020001 * (h * h + e)
 DH-square-le K N d1 H1 H2 SH1 SH2 DH2 h e some-SH ratio one two squares error =
-    le-of-mul-le (SH2 * SH2) (mul-pos some-SH some-SH)
+    le_of_mul_le (SH2 * SH2) (mul-pos some-SH some-SH)
     (omega (arith, weighed, mul-le-mul_right (h * h) (square_le ratio)))
   where
     weighed : DH2 * SH2 * (DH2 * SH2) ≤ h * SH1 * (h * SH1) + e * (SH2 * SH2)
@@ -94,24 +94,24 @@ DH-square-le K N d1 H1 H2 SH1 SH2 DH2 h e some-SH ratio one two squares error =
 -- ---- DE
 
 -- 5.9; X is DE1 + K. The square is completed, so nothing is divided by DE
-sum-of-squares-le :
+sum_of_squares_le :
     (K X DL DC DH : ℕ) →
     DL * DL + DC * DC + DH * DH < X * X →
     (DL + K) * (DL + K) + (DC + 9 * K) * (DC + 9 * K) + ((DH + 8 * K) * (DH + 8 * K) + 1120 * (K * (DC + K)))
     ≤ (X + 578 * K) * (X + 578 * K)
-sum-of-squares-le K X DL DC DH sum =
-    let DL≤X : DL ≤ X = le-of-square-le (omega arith) in
-    let DC≤X : DC ≤ X = le-of-square-le (omega arith) in
-    let DH≤X : DH ≤ X = le-of-square-le (omega arith) in
+sum_of_squares_le K X DL DC DH sum =
+    let DL≤X : DL ≤ X = le_of_square_le (omega arith) in
+    let DC≤X : DC ≤ X = le_of_square_le (omega arith) in
+    let DH≤X : DH ≤ X = le_of_square_le (omega arith) in
     omega (arith, mul-le-mul_right K DL≤X, mul-le-mul_right K DC≤X, mul-le-mul_right K DH≤X)
 
 -- 5.9; u, v are the bounds of 5.1 and 5.2, w that of 5.8, and Y is X + 578 K
-DE-le-of-parts :
+DE_le_of_parts :
     (u v w Y DL DC DH DE : ℕ) →
     DE * DE ≤ DL * DL + DC * DC + DH * DH → 10000 * DL ≤ 10001 * u → 10000 * DC ≤ 10001 * v →
     10000 * DH * (10000 * DH) ≤ 100020001 * w → u * u + v * v + w ≤ Y * Y → 10000 * DE ≤ 10001 * Y
-DE-le-of-parts u v w Y DL DC DH DE sum by-u by-v by-w whole =
-    le-of-square-le (omega (arith, square_le by-u, square_le by-v))
+DE_le_of_parts u v w Y DL DC DH DE sum by-u by-v by-w whole =
+    le_of_square_le (omega (arith, square_le by-u, square_le by-v))
 
 -- ---- of two loose sheets
 
@@ -123,23 +123,23 @@ pub DE-le :
 DE-le {K} {d} {s} {t} some hl hc one two close near back =
     let low = square-low two.DE in
     let high = square-high one.DE in
-    omega (arith, DE-le-of-parts _ _ _ _ _ _ _ _ low by-DL by-DC by-DH (sum-of-squares-le _ _ _ _ _ high))
+    omega (arith, DE_le_of_parts _ _ _ _ _ _ _ _ low by_DL by_DC by_DH (sum_of_squares_le _ _ _ _ _ high))
   where
-    turned : (b : Bool) → d.sameHue ≡ b → t.ΔH * t.ΔH ≤ (s.ΔH + K) * (s.ΔH + K) + 4 * K * s.ΔC
+    turned : (b : Bool) → d.same_hue ≡ b → t.ΔH * t.ΔH ≤ (s.ΔH + K) * (s.ΔH + K) + 4 * K * s.ΔC
     turned true e = rw (two.same e) (omega arith)
     turned false e = ΔH-square-le _ _ _ _ _ _ near (one.ΔH e) (two.ΔH e)
 
-    by-DL : 10000 * t.DL ≤ 10001 * (s.DL + K)
-    by-DL = DL-le _ _ _ _ _ _ _ (omega (arith, hl.low)) (omega (arith, two.1≤2SL)) close.SL one.DL two.DL
+    by_DL : 10000 * t.DL ≤ 10001 * (s.DL + K)
+    by_DL = DL-le _ _ _ _ _ _ _ (omega (arith, hl.low)) (omega (arith, two.1≤2SL)) close.SL one.DL two.DL
 
-    by-DC : 10000 * t.DC ≤ 10001 * (s.DC + 9 * K)
-    by-DC =
+    by_DC : 10000 * t.DC ≤ 10001 * (s.DC + 9 * K)
+    by_DC =
         DC-le _ _ _ _ _ _ _ _ _ hc.low (omega (arith, two.1≤2SC)) one.1≤2SC back close.SC one.DC two.DC
 
-    by-DH : 10000 * t.DH * (10000 * t.DH) ≤ 100020001 * ((s.DH + 8 * K) * (s.DH + 8 * K) + 1120 * (K * (s.DC + K)))
-    by-DH =
+    by_DH : 10000 * t.DH * (10000 * t.DH) ≤ 100020001 * ((s.DH + 8 * K) * (s.DH + 8 * K) + 1120 * (K * (s.DC + K)))
+    by_DH =
         DH-square-le _ _ _ _ _ _ _ _ _ _ (omega (arith, two.1≤7SH)) close.SH
         (ΔH-le-DH _ _ _ _ _ one.1≤7SH one.DH)
         two.DH.low
-        (turned d.sameHue refl)
-        (error-le _ _ _ _ _ _ _ hc.high two.1≤7SH close.SC≤4SH one.DC)
+        (turned d.same_hue refl)
+        (error_le _ _ _ _ _ _ _ hc.high two.1≤7SH close.SC≤4SH one.DC)

@@ -26,13 +26,13 @@ pub record Data : Type 0 where
   pub formula : Formula
   pub l : ℕ
   pub c : ℕ
-  pub squareR : ℕ
-  pub squareT : ℕ
+  pub square_r : ℕ
+  pub square_t : ℕ
   pub D² : ℕ
   pub ΔL : ℕ
   pub L : ℕ
   pub M : ℕ
-  pub sameHue : Bool
+  pub same_hue : Bool
   pub second : Bool
 
 -- the sheet's quantities, as magnitudes; CR and CT are the chromas
@@ -69,7 +69,7 @@ slope true = 2
 -- lines 5 to 7 of a reference that is not neutral
 pub record LooseHue (K N : ℕ) (d : Data) (s : Quantities) : Type 0 where
   pub K≤C : K ≤ s.CR
-  pub Q : LooseFraction K d.squareR (128 * N) s.Q
+  pub Q : LooseFraction K d.square_r (128 * N) s.Q
   pub W : LooseRoot 2 K (s.Q * s.Q + 1900 * (coarse K * coarse K)) s.W
   pub Q≤W : s.Q ≤ s.W
   pub 43≤W : 43 * coarse K ≤ s.W
@@ -88,8 +88,8 @@ pub record LooseCMC (K N : ℕ) (d : Data) (s : Quantities) : Type 0 where
   pub SC :
       LooseFraction K ((638 * s.CR * 1000 + (10000 * N + 131 * s.CR) * 638) * N) ((10000 * N + 131 * s.CR) * 1000)
       s.SC
-  pub neutral : d.squareR ≡ 0 → s.SH ≡ s.SC
-  pub chromatic : 0 < d.squareR → LooseHue K N d s
+  pub neutral : d.square_r ≡ 0 → s.SH ≡ s.SC
+  pub chromatic : 0 < d.square_r → LooseHue K N d s
 
 pub record LooseCIE94 (K N : ℕ) (s : Quantities) : Type 0 where
   pub SL : s.SL ≡ N
@@ -109,8 +109,8 @@ LooseSemiAxes CMC K N d s = LooseCMC K N d s
 -- ---- lines 2 and 8, with any semi-axes that are not small
 
 pub record LooseDifferences (K N : ℕ) (d : Data) (s : Quantities) : Type 0 where
-  pub same : d.sameHue ≡ true → s.ΔH ≡ 0
-  pub ΔH : d.sameHue ≡ false → LooseRoot 2 K (d.D² - s.ΔC * s.ΔC) s.ΔH
+  pub same : d.same_hue ≡ true → s.ΔH ≡ 0
+  pub ΔH : d.same_hue ≡ false → LooseRoot 2 K (d.D² - s.ΔC * s.ΔC) s.ΔH
   pub 1≤2SL : N ≤ 2 * s.SL
   pub 1≤2SC : N ≤ 2 * s.SC
   pub 1≤7SH : N ≤ 7 * s.SH
@@ -122,8 +122,8 @@ pub record LooseDifferences (K N : ℕ) (d : Data) (s : Quantities) : Type 0 whe
 -- ---- the whole
 
 pub record Loose (K N : ℕ) (d : Data) (s : Quantities) : Type 0 where
-  pub CR : LooseRoot 2 K d.squareR s.CR
-  pub CT : LooseRoot 2 K d.squareT s.CT
+  pub CR : LooseRoot 2 K d.square_r s.CR
+  pub CT : LooseRoot 2 K d.square_t s.CT
   pub ΔC : (s.ΔC + s.CR ≡ s.CT) ⊎ (s.ΔC + s.CT ≡ s.CR)
-  pub semi-axes : LooseSemiAxes d.formula K N d s
+  pub semi_axes_lem : LooseSemiAxes d.formula K N d s
   pub differences : LooseDifferences K N d s

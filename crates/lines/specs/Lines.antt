@@ -14,7 +14,7 @@ use Rattle.names.specs.declared.Hue.{Hue}
 use Rattle.names.specs.declared.Hue.TheVariants as H
 use Rattle.text.specs.Ascii.{ascii}
 use Rattle.text.specs.Put.{joined}
-use Rattle.text.specs.Decimal.{withPlaces, shownAs}
+use Rattle.text.specs.Decimal.{with_places, shown_as}
 use Rattle.text.specs.declared.decimal.Shown.{Shown}
 pub mod Nearest
 pub mod Laws
@@ -22,45 +22,45 @@ pub mod Longest
 
 -- ---- words
 
-abbrev pub lightnessWord : Lightness → List ℕ
-lightnessWord L.Lighter = ascii "lighter"
-lightnessWord L.Darker = ascii "darker"
-lightnessWord L.Equal = ascii "equal"
+abbrev pub lightness_word : Lightness → List ℕ
+lightness_word L.Lighter = ascii "lighter"
+lightness_word L.Darker = ascii "darker"
+lightness_word L.Equal = ascii "equal"
 
-abbrev pub chromaWord : Chroma → List ℕ
-chromaWord C.More = ascii "more"
-chromaWord C.Less = ascii "less"
-chromaWord C.Equal = ascii "equal"
+abbrev pub chroma_word : Chroma → List ℕ
+chroma_word C.More = ascii "more"
+chroma_word C.Less = ascii "less"
+chroma_word C.Equal = ascii "equal"
 
-abbrev pub axisWord : Axis → List ℕ
-axisWord Redder = ascii "redder"
-axisWord Yellower = ascii "yellower"
-axisWord Greener = ascii "greener"
-axisWord Bluer = ascii "bluer"
+abbrev pub axis_word : Axis → List ℕ
+axis_word Redder = ascii "redder"
+axis_word Yellower = ascii "yellower"
+axis_word Greener = ascii "greener"
+axis_word Bluer = ascii "bluer"
 
 -- yellower(redder)
-abbrev pub hueWord : Hue → List ℕ
-hueWord H.Equal = ascii "equal"
-hueWord (H.Towards name bracket) = joined (axisWord name ∷ ascii "(" ∷ axisWord bracket ∷ ascii ")" ∷ [])
+abbrev pub hue_word : Hue → List ℕ
+hue_word H.Equal = ascii "equal"
+hue_word (H.Towards name bracket) = joined (axis_word name ∷ ascii "(" ∷ axis_word bracket ∷ ascii ")" ∷ [])
 
-abbrev pub verdictWord : Verdict → List ℕ
-verdictWord Near = ascii "near"
-verdictWord Pass = ascii "pass"
-verdictWord Fail = ascii "fail"
+abbrev pub verdict_word : Verdict → List ℕ
+verdict_word Near = ascii "near"
+verdict_word Pass = ascii "pass"
+verdict_word Fail = ascii "fail"
 
 -- under CMC an achromatic specimen withholds DC, DH and their names
-abbrev pub unlessWithheld : (withheld : Bool) → List ℕ → List ℕ
-unlessWithheld withheld s = cond withheld (ascii "withheld") s
+abbrev pub unless_withheld : (withheld : Bool) → List ℕ → List ℕ
+unless_withheld withheld s = cond withheld (ascii "withheld") s
 
 -- ---- numbers
 
 -- units of 2 ^ -20, to the nearest four decimals
 abbrev pub figure : (below : Bool) (m : ℕ) → Shown
-figure below m = shownAs 4 (2 ^ 20) below m
+figure below m = shown_as 4 (2 ^ 20) below m
 
-abbrev pub signedFigure : ℤ → Shown
-signedFigure z = figure (minus z) ∣ z ∣
+abbrev pub signed_figure : ℤ → Shown
+signed_figure z = figure (minus z) ∣ z ∣
 
 -- thousandths as they were given, with three
 abbrev pub thousandths : ℕ → Shown
-thousandths m = withPlaces 3 false m
+thousandths m = with_places 3 false m

@@ -1,8 +1,8 @@
 // The lines that say a number.
 ghost use Rattle.std.specs.Prelude.{◌≡◌, false, ◌≤◌, length};
-ghost use Rattle.text.specs.Decimal.{decimalText};
+ghost use Rattle.text.specs.Decimal.{decimal_text};
 ghost use Rattle.text.specs.Put.{Room, Puts, line};
-ghost use Rattle.lines.specs.Lines.{thousandths, figure, signedFigure, unlessWithheld};
+ghost use Rattle.lines.specs.Lines.{thousandths, figure, signed_figure, unless_withheld};
 
 use reading::grid::Grid;
 use rounding::signed::magnitude;
@@ -39,32 +39,32 @@ pub fn figure_of(below: bool, m: u64) -> Shown
 
 // z units of 2^-20.
 pub fn signed_figure(z: i64) -> Shown
-    ensures { result ≡ signedFigure z }
+    ensures { result ≡ signed_figure z }
 {
     figure_of(z < 0, magnitude(z))
 }
 
 pub fn thousandths_len(m: u64) -> usize
-    ensures { (result ≡ length (decimalText (thousandths m))) × (result ≤ 25) }
+    ensures { (result ≡ length (decimal_text (thousandths m))) × (result ≤ 25) }
 {
     decimal_len(thousandths_of(m))
 }
 
 pub fn figure_len(m: u64) -> usize
-    ensures { (result ≡ length (decimalText (figure false m))) × (result ≤ 26) }
+    ensures { (result ≡ length (decimal_text (figure false m))) × (result ≤ 26) }
 {
     decimal_len(figure_of(false, m))
 }
 
 pub fn signed_len(z: i64) -> usize
-    ensures { (result ≡ length (decimalText (signedFigure z))) × (result ≤ 26) }
+    ensures { (result ≡ length (decimal_text (signed_figure z))) × (result ≤ 26) }
 {
     decimal_len(signed_figure(z))
 }
 
 pub fn put_number(dst: &mut [u8], at: usize, key: &[u8], d: Shown) -> usize
-    requires { Room dst.old at (line key.now (decimalText d)) }
-    ensures { Puts dst.old at (line key.now (decimalText d)) result dst.new }
+    requires { Room dst.old at (line key.now (decimal_text d)) }
+    ensures { Puts dst.old at (line key.now (decimal_text d)) result dst.new }
 {
     let after_key = put(dst, at, key);
     let after_number = put_decimal(dst, after_key, d);
@@ -73,8 +73,8 @@ pub fn put_number(dst: &mut [u8], at: usize, key: &[u8], d: Shown) -> usize
 
 // DC= and DH=.
 pub fn put_chromatic(dst: &mut [u8], at: usize, withheld: bool, key: &[u8], d: Shown) -> usize
-    requires { Room dst.old at (line key.now (unlessWithheld withheld (decimalText d))) }
-    ensures { Puts dst.old at (line key.now (unlessWithheld withheld (decimalText d))) result
+    requires { Room dst.old at (line key.now (unless_withheld withheld (decimal_text d))) }
+    ensures { Puts dst.old at (line key.now (unless_withheld withheld (decimal_text d))) result
         dst.new }
 {
     if withheld {

@@ -1,10 +1,10 @@
 // The lines that say a name: how many bytes the name takes, and the line put into a lent slice.
 ghost use Rattle.std.specs.Prelude.{◌≡◌, ◌≤◌, length};
 ghost use Rattle.text.specs.Ascii.{ascii};
-ghost use Rattle.text.specs.Names.{formulaName, whiteName};
+ghost use Rattle.text.specs.Names.{formula_name, white_name};
 ghost use Rattle.text.specs.Put.{Room, Puts, joined, line};
-ghost use Rattle.lines.specs.Lines.{lightnessWord, chromaWord, axisWord, hueWord, verdictWord, unlessWithheld};
-ghost use Rattle.lines.specs.Lines.Laws.{axesPieces};
+ghost use Rattle.lines.specs.Lines.{lightness_word, chroma_word, axis_word, hue_word, verdict_word, unless_withheld};
+ghost use Rattle.lines.specs.Lines.Laws.{axes_pieces};
 
 use colour::white::White;
 use names::{Axis, Chroma, Hue, Lightness};
@@ -13,7 +13,7 @@ use sheet::verdict::Verdict;
 use text::put::put;
 
 pub fn formula_len(f: Formula) -> usize
-    ensures { (result ≡ length (formulaName f)) × (result ≤ 6) }
+    ensures { (result ≡ length (formula_name f)) × (result ≤ 6) }
 {
     match f {
         Formula::CIELAB => 6,
@@ -23,8 +23,8 @@ pub fn formula_len(f: Formula) -> usize
 }
 
 pub fn put_formula(dst: &mut [u8], at: usize, f: Formula) -> usize
-    requires { Room dst.old at (line (ascii "formula=") (formulaName f)) }
-    ensures { Puts dst.old at (line (ascii "formula=") (formulaName f)) result dst.new }
+    requires { Room dst.old at (line (ascii "formula=") (formula_name f)) }
+    ensures { Puts dst.old at (line (ascii "formula=") (formula_name f)) result dst.new }
 {
     match f {
         Formula::CIELAB => put(dst, at, b"formula=CIELAB\n"),
@@ -34,7 +34,7 @@ pub fn put_formula(dst: &mut [u8], at: usize, f: Formula) -> usize
 }
 
 pub fn white_len(w: White) -> usize
-    ensures { (result ≡ length (whiteName w)) × (result ≤ 6) }
+    ensures { (result ≡ length (white_name w)) × (result ≤ 6) }
 {
     match w {
         White::D65Ten => 6,
@@ -45,8 +45,8 @@ pub fn white_len(w: White) -> usize
 }
 
 pub fn put_white(dst: &mut [u8], at: usize, w: White) -> usize
-    requires { Room dst.old at (line (ascii "white=") (whiteName w)) }
-    ensures { Puts dst.old at (line (ascii "white=") (whiteName w)) result dst.new }
+    requires { Room dst.old at (line (ascii "white=") (white_name w)) }
+    ensures { Puts dst.old at (line (ascii "white=") (white_name w)) result dst.new }
 {
     match w {
         White::D65Ten => put(dst, at, b"white=D65/10\n"),
@@ -57,7 +57,7 @@ pub fn put_white(dst: &mut [u8], at: usize, w: White) -> usize
 }
 
 pub fn lightness_len(x: Lightness) -> usize
-    ensures { (result ≡ length (lightnessWord x)) × (result ≤ 7) }
+    ensures { (result ≡ length (lightness_word x)) × (result ≤ 7) }
 {
     match x {
         Lightness::Lighter => 7,
@@ -67,8 +67,8 @@ pub fn lightness_len(x: Lightness) -> usize
 }
 
 pub fn put_lightness(dst: &mut [u8], at: usize, x: Lightness) -> usize
-    requires { Room dst.old at (line (ascii "lightness=") (lightnessWord x)) }
-    ensures { Puts dst.old at (line (ascii "lightness=") (lightnessWord x)) result dst.new }
+    requires { Room dst.old at (line (ascii "lightness=") (lightness_word x)) }
+    ensures { Puts dst.old at (line (ascii "lightness=") (lightness_word x)) result dst.new }
 {
     match x {
         Lightness::Lighter => put(dst, at, b"lightness=lighter\n"),
@@ -78,7 +78,7 @@ pub fn put_lightness(dst: &mut [u8], at: usize, x: Lightness) -> usize
 }
 
 pub fn chroma_len(withheld: bool, x: Chroma) -> usize
-    ensures { (result ≡ length (unlessWithheld withheld (chromaWord x))) × (result ≤ 8) }
+    ensures { (result ≡ length (unless_withheld withheld (chroma_word x))) × (result ≤ 8) }
 {
     if withheld {
         return 8;
@@ -91,8 +91,8 @@ pub fn chroma_len(withheld: bool, x: Chroma) -> usize
 }
 
 pub fn put_chroma(dst: &mut [u8], at: usize, withheld: bool, x: Chroma) -> usize
-    requires { Room dst.old at (line (ascii "chroma=") (unlessWithheld withheld (chromaWord x))) }
-    ensures { Puts dst.old at (line (ascii "chroma=") (unlessWithheld withheld (chromaWord x))) result
+    requires { Room dst.old at (line (ascii "chroma=") (unless_withheld withheld (chroma_word x))) }
+    ensures { Puts dst.old at (line (ascii "chroma=") (unless_withheld withheld (chroma_word x))) result
         dst.new }
 {
     if withheld {
@@ -106,7 +106,7 @@ pub fn put_chroma(dst: &mut [u8], at: usize, withheld: bool, x: Chroma) -> usize
 }
 
 fn axis_len(x: Axis) -> usize
-    ensures { (result ≡ length (axisWord x)) × (result ≤ 8) }
+    ensures { (result ≡ length (axis_word x)) × (result ≤ 8) }
 {
     match x {
         Axis::Redder => 6,
@@ -117,8 +117,8 @@ fn axis_len(x: Axis) -> usize
 }
 
 fn put_axis(dst: &mut [u8], at: usize, x: Axis) -> usize
-    requires { Room dst.old at (axisWord x) }
-    ensures { Puts dst.old at (axisWord x) result dst.new }
+    requires { Room dst.old at (axis_word x) }
+    ensures { Puts dst.old at (axis_word x) result dst.new }
 {
     match x {
         Axis::Redder => put(dst, at, b"redder"),
@@ -129,8 +129,8 @@ fn put_axis(dst: &mut [u8], at: usize, x: Axis) -> usize
 }
 
 fn put_axes(dst: &mut [u8], at: usize, name: Axis, bracket: Axis) -> usize
-    requires { Room dst.old at (joined (axesPieces name bracket)) }
-    ensures { Puts dst.old at (joined (axesPieces name bracket)) result dst.new }
+    requires { Room dst.old at (joined (axes_pieces name bracket)) }
+    ensures { Puts dst.old at (joined (axes_pieces name bracket)) result dst.new }
 {
     let after_key = put(dst, at, b"hue=");
     let after_name = put_axis(dst, after_key, name);
@@ -140,7 +140,7 @@ fn put_axes(dst: &mut [u8], at: usize, name: Axis, bracket: Axis) -> usize
 }
 
 pub fn hue_len(withheld: bool, x: Hue) -> usize
-    ensures { (result ≡ length (unlessWithheld withheld (hueWord x))) × (result ≤ 18) }
+    ensures { (result ≡ length (unless_withheld withheld (hue_word x))) × (result ≤ 18) }
 {
     if withheld {
         return 8;
@@ -152,8 +152,8 @@ pub fn hue_len(withheld: bool, x: Hue) -> usize
 }
 
 pub fn put_hue(dst: &mut [u8], at: usize, withheld: bool, x: Hue) -> usize
-    requires { Room dst.old at (line (ascii "hue=") (unlessWithheld withheld (hueWord x))) }
-    ensures { Puts dst.old at (line (ascii "hue=") (unlessWithheld withheld (hueWord x))) result dst.new }
+    requires { Room dst.old at (line (ascii "hue=") (unless_withheld withheld (hue_word x))) }
+    ensures { Puts dst.old at (line (ascii "hue=") (unless_withheld withheld (hue_word x))) result dst.new }
 {
     if withheld {
         return put(dst, at, b"hue=withheld\n");
@@ -165,7 +165,7 @@ pub fn put_hue(dst: &mut [u8], at: usize, withheld: bool, x: Hue) -> usize
 }
 
 pub fn verdict_len(x: Verdict) -> usize
-    ensures { (result ≡ length (verdictWord x)) × (result ≤ 4) }
+    ensures { (result ≡ length (verdict_word x)) × (result ≤ 4) }
 {
     match x {
         Verdict::Near => 4,
@@ -175,8 +175,8 @@ pub fn verdict_len(x: Verdict) -> usize
 }
 
 pub fn put_verdict(dst: &mut [u8], at: usize, x: Verdict) -> usize
-    requires { Room dst.old at (line (ascii "verdict=") (verdictWord x)) }
-    ensures { Puts dst.old at (line (ascii "verdict=") (verdictWord x)) result dst.new }
+    requires { Room dst.old at (line (ascii "verdict=") (verdict_word x)) }
+    ensures { Puts dst.old at (line (ascii "verdict=") (verdict_word x)) result dst.new }
 {
     match x {
         Verdict::Near => put(dst, at, b"verdict=near\n"),

@@ -6,7 +6,7 @@ use Rattle.std.specs.Prelude.{Bool, true, false, not, cond, ◌&&◌, ◌||◌, 
 use Rattle.std.specs.Int.Signed.{lt_z}
 use Rattle.rounding.specs.Signed.{square, minus}
 use Rattle.colour.specs.declared.conversion.GridColour.{GridColour}
-use Rattle.sheet.specs.Sheet.{sameHue, cross, dot, cross_of, dotOf}
+use Rattle.sheet.specs.Sheet.{same_hue, cross, dot, cross_of, dot_of}
 use Rattle.sheet.specs.declared.formula.Formula.{Formula}
 use Rattle.sheet.specs.declared.formula.Formula.TheVariants.{CIELAB, CIE94, CMC}
 use Rattle.names.specs.declared.Lightness as Lightness
@@ -21,14 +21,14 @@ pub mod Withheld
 -- ---- lightness and chroma
 
 -- by the sign of ΔL
-abbrev pub lightnessName : (ΔL : ℤ) → Lightness.Lightness
-lightnessName ΔL =
+abbrev pub lightness_name : (ΔL : ℤ) → Lightness.Lightness
+lightness_name ΔL =
     cond (minus ΔL) Lightness.TheVariants.Darker
     (cond (lt_z (pos 0) ΔL) Lightness.TheVariants.Lighter Lightness.TheVariants.Equal)
 
 -- by the sign of ΔC
-abbrev pub chromaName : (ΔC : ℤ) → Chroma.Chroma
-chromaName ΔC =
+abbrev pub chroma_name : (ΔC : ℤ) → Chroma.Chroma
+chroma_name ΔC =
     cond (minus ΔC) Chroma.TheVariants.Less (cond (lt_z (pos 0) ΔC) Chroma.TheVariants.More Chroma.TheVariants.Equal)
 
 -- ---- hue
@@ -56,25 +56,25 @@ met true a b axis =
 
 -- the axes are a quarter turn apart, so from any (a, b) but (0, 0) just one is met within the first quarter: it is the
 -- first of all
-unfoldable pub firstMet : (clockwise : Bool) (a b : ℤ) → Axis
-firstMet clockwise a b =
+unfoldable pub first_met : (clockwise : Bool) (a b : ℤ) → Axis
+first_met clockwise a b =
     cond (met clockwise a b Redder) Redder
     (cond (met clockwise a b Greener) Greener (cond (met clockwise a b Bluer) Bluer Yellower))
 
 -- the next is the first that a turn from that axis meets
-abbrev pub nextMet : (clockwise : Bool) → Axis → Axis
-nextMet clockwise axis = firstMet clockwise (direction axis).a (direction axis).b
+abbrev pub next_met : (clockwise : Bool) → Axis → Axis
+next_met clockwise axis = first_met clockwise (direction axis).a (direction axis).b
 
 -- by the cross and the dot: equal in the same hue; otherwise turn from the reference's (a, b), anticlockwise for plus
 -- and clockwise for minus. The first axis met gives the name, the next the bracket
-unfoldable pub hueNamed : (cross dot a b : ℤ) → Hue.Hue
-hueNamed cross dot a b =
-    let first : Axis = firstMet (minus cross) a b in
-    cond (sameHue cross dot) Hue.TheVariants.Equal (Hue.TheVariants.Towards first (nextMet (minus cross) first))
+unfoldable pub hue_named : (cross dot a b : ℤ) → Hue.Hue
+hue_named cross dot a b =
+    let first : Axis = first_met (minus cross) a b in
+    cond (same_hue cross dot) Hue.TheVariants.Equal (Hue.TheVariants.Towards first (next_met (minus cross) first))
 
 -- of two colours of the grid
-unfoldable pub hueName : (R T : GridColour) → Hue.Hue
-hueName R T = hueNamed (cross_of R T) (dotOf R T) R.a.0 R.b.0
+unfoldable pub hue_name : (R T : GridColour) → Hue.Hue
+hue_name R T = hue_named (cross_of R T) (dot_of R T) R.a.0 R.b.0
 
 -- ---- achromatic, and withheld
 
@@ -83,7 +83,7 @@ unfoldable pub achromatic : GridColour → Bool
 achromatic X = leb (square X.a.0 + square X.b.0) (16 * (2 ^ 20 * 2 ^ 20))
 
 -- under CMC a report withholds DC, DH and their names where the reference or the test specimen is achromatic
-abbrev pub withheldBy : Formula → (R T : GridColour) → Bool
-withheldBy CIELAB R T = false
-withheldBy CIE94 R T = false
-withheldBy CMC R T = achromatic R || achromatic T
+abbrev pub withheld_by : Formula → (R T : GridColour) → Bool
+withheld_by CIELAB R T = false
+withheld_by CIE94 R T = false
+withheld_by CMC R T = achromatic R || achromatic T

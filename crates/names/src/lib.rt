@@ -1,7 +1,7 @@
 // SCOPE 7: how the test specimen differs from the reference, in words, and where a report withholds them.
 ghost use Rattle.std.specs.Prelude.{◌≡◌, true, false};
-ghost use Rattle.names.specs.Names.{lightnessName, chromaName, firstMet, nextMet, hueNamed, achromatic};
-ghost use Rattle.names.specs.Names.{withheldBy};
+ghost use Rattle.names.specs.Names.{lightness_name, chroma_name, first_met, next_met, hue_named, achromatic};
+ghost use Rattle.names.specs.Names.{withheld_by};
 
 use colour::conversion::GridColour;
 use reading::grid::Grid;
@@ -41,7 +41,7 @@ pub enum Hue {
 
 // By the sign of ΔL.
 pub fn lightness_name(dl: i64) -> Lightness
-    ensures { result ≡ lightnessName dl }
+    ensures { result ≡ lightness_name dl }
 {
     if dl < 0 {
         return Lightness::Darker;
@@ -55,7 +55,7 @@ pub fn lightness_name(dl: i64) -> Lightness
 
 // By the sign of ΔC.
 pub fn chroma_name(dc: i64) -> Chroma
-    ensures { result ≡ chromaName dc }
+    ensures { result ≡ chroma_name dc }
 {
     if dc < 0 {
         return Chroma::Less;
@@ -65,7 +65,7 @@ pub fn chroma_name(dc: i64) -> Chroma
 
 // The first axis that an anticlockwise turn from (a, b) meets, by the quarter that (a, b) lies in.
 fn first_anticlockwise(a: i64, b: i64) -> Axis
-    ensures { result ≡ firstMet false a b }
+    ensures { result ≡ first_met false a b }
 {
     if 0 < b {
         if 0 < a {
@@ -81,7 +81,7 @@ fn first_anticlockwise(a: i64, b: i64) -> Axis
 
 // The first that a clockwise turn meets.
 fn first_clockwise(a: i64, b: i64) -> Axis
-    ensures { result ≡ firstMet true a b }
+    ensures { result ≡ first_met true a b }
 {
     if 0 < b {
         if a < 0 {
@@ -97,7 +97,7 @@ fn first_clockwise(a: i64, b: i64) -> Axis
 
 // The axis that a turn meets after this one.
 fn next_axis(clockwise: bool, axis: Axis) -> Axis
-    ensures { result ≡ nextMet clockwise axis }
+    ensures { result ≡ next_met clockwise axis }
 {
     if clockwise {
         return match axis {
@@ -117,7 +117,7 @@ fn next_axis(clockwise: bool, axis: Axis) -> Axis
 
 // The hue's name and its bracket, from the cross, the dot and the reference's a and b.
 pub fn hue_name(cross: i64, dot: i64, a: i64, b: i64) -> Hue
-    ensures { result ≡ hueNamed cross dot a b }
+    ensures { result ≡ hue_named cross dot a b }
 {
     if same_hue(cross, dot) {
         return Hue::Equal;
@@ -152,7 +152,7 @@ fn is_achromatic(x: GridColour) -> bool
 
 // Whether a report withholds DC, DH and their names: under CMC, where either specimen is achromatic.
 pub fn is_withheld(formula: Formula, r: GridColour, t: GridColour) -> bool
-    ensures { result ≡ withheldBy formula r t }
+    ensures { result ≡ withheld_by formula r t }
 {
     match formula {
         Formula::CIELAB => false,

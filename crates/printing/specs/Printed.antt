@@ -4,12 +4,12 @@ use Rattle.std.specs.Prelude.{◌≡◌, Bool, cond, List, [], ◌∷◌, ℕ, l
 use Rattle.std.proofs.Common.{sym, ◌∙◌}
 use Rattle.text.specs.Ascii.{ascii}
 use Rattle.text.specs.Put.{put_at, joined}
-use Rattle.text.specs.Decimal.{wholeText}
-use Rattle.ticket.specs.Ticket.{ticketOf}
-use Rattle.report.specs.Report.{reportText}
+use Rattle.text.specs.Decimal.{whole_text}
+use Rattle.ticket.specs.Ticket.{ticket_of}
+use Rattle.report.specs.Report.{report_text}
 use Rattle.standard.specs.declared.judge.Outcome.{Outcome}
 use Rattle.standard.specs.declared.judge.Outcome.TheVariants.{Refused, Judged}
-use Rattle.calls.specs.Outcome.{ticketOutcome}
+use Rattle.calls.specs.Outcome.{ticket_outcome}
 pub use Rattle.calls.specs.Line.{line_of}
 pub mod Laws
 pub mod Cases
@@ -17,21 +17,21 @@ pub mod Cases
 -- ---- the line of a refusal
 
 -- refused=7 line=3
-abbrev pub refusalPieces : (number line : ℕ) → List (List ℕ)
-refusalPieces number line = ascii "refused=" ∷ wholeText number ∷ ascii " line=" ∷ wholeText line ∷ ascii "\n" ∷ []
+abbrev pub refusal_pieces : (number line : ℕ) → List (List ℕ)
+refusal_pieces number line = ascii "refused=" ∷ whole_text number ∷ ascii " line=" ∷ whole_text line ∷ ascii "\n" ∷ []
 
-unfoldable pub refusalLine : (number line : ℕ) → List ℕ
-refusalLine number line = joined (refusalPieces number line)
+unfoldable pub refusal_line : (number line : ℕ) → List ℕ
+refusal_line number line = joined (refusal_pieces number line)
 
 -- ---- what is printed
 
-abbrev pub outcomeText : Outcome → (line : ℕ) → List ℕ
-outcomeText (Refused number) line = refusalLine number line
-outcomeText (Judged j) line = reportText j
+abbrev pub outcome_text : Outcome → (line : ℕ) → List ℕ
+outcome_text (Refused number) line = refusal_line number line
+outcome_text (Judged j) line = report_text j
 
 -- THE PROGRAM, its line that of a ticket's answer: from the bytes of standard input to those of standard output
-unfoldable pub printedText : List ℕ → List ℕ
-printedText text = outcomeText (ticketOutcome (ticketOf text)) (line_of (ticketOf text))
+unfoldable pub printed_text : List ℕ → List ℕ
+printed_text text = outcome_text (ticket_outcome (ticket_of text)) (line_of (ticket_of text))
 
 -- ---- a text printed into a lent slice
 
@@ -45,7 +45,7 @@ pub record Prints (before s : List ℕ) (n : ℕ) (after : List ℕ) : Type 0 wh
   pub bytes : after ≡ cond (fits before s) (put_at before 0 s) before
 
 -- ANY TWO OUTCOMES THAT A CONTRACT ADMITS ARE EQUAL: the count, and the bytes of the lent slice
-pub prints-one :
+pub prints_one :
     {before s : List ℕ} {n m : ℕ} {after others : List ℕ} →
     Prints before s n after → Prints before s m others → (n ≡ m) × (after ≡ others)
-prints-one p q = (p.count ∙ sym q.count, p.bytes ∙ sym q.bytes)
+prints_one p q = (p.count ∙ sym q.count, p.bytes ∙ sym q.bytes)

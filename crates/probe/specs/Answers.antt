@@ -18,50 +18,50 @@ use Rattle.probe.specs.declared.answers.Words.{Words}
 
 -- ---- names and the verdict, counted from 1 in the order of SCOPE 6.4 and 7
 
-abbrev pub lightnessNumber : Lightness.Lightness → ℕ
-lightnessNumber Lightness.TheVariants.Lighter = 1
-lightnessNumber Lightness.TheVariants.Darker = 2
-lightnessNumber Lightness.TheVariants.Equal = 3
+abbrev pub lightness_number : Lightness.Lightness → ℕ
+lightness_number Lightness.TheVariants.Lighter = 1
+lightness_number Lightness.TheVariants.Darker = 2
+lightness_number Lightness.TheVariants.Equal = 3
 
-abbrev pub chromaNumber : Chroma.Chroma → ℕ
-chromaNumber Chroma.TheVariants.More = 1
-chromaNumber Chroma.TheVariants.Less = 2
-chromaNumber Chroma.TheVariants.Equal = 3
+abbrev pub chroma_number : Chroma.Chroma → ℕ
+chroma_number Chroma.TheVariants.More = 1
+chroma_number Chroma.TheVariants.Less = 2
+chroma_number Chroma.TheVariants.Equal = 3
 
-abbrev pub axisNumber : Axis → ℕ
-axisNumber Redder = 1
-axisNumber Yellower = 2
-axisNumber Greener = 3
-axisNumber Bluer = 4
+abbrev pub axis_number : Axis → ℕ
+axis_number Redder = 1
+axis_number Yellower = 2
+axis_number Greener = 3
+axis_number Bluer = 4
 
-abbrev pub hueNumber : Hue.Hue → ℕ
-hueNumber (Hue.TheVariants.Towards name bracket) = axisNumber name
-hueNumber Hue.TheVariants.Equal = 5
+abbrev pub hue_number : Hue.Hue → ℕ
+hue_number (Hue.TheVariants.Towards name bracket) = axis_number name
+hue_number Hue.TheVariants.Equal = 5
 
-abbrev pub bracketNumber : Hue.Hue → ℕ
-bracketNumber (Hue.TheVariants.Towards name bracket) = axisNumber bracket
-bracketNumber Hue.TheVariants.Equal = 0
+abbrev pub bracket_number : Hue.Hue → ℕ
+bracket_number (Hue.TheVariants.Towards name bracket) = axis_number bracket
+bracket_number Hue.TheVariants.Equal = 0
 
-abbrev pub verdictNumber : Verdict → ℕ
-verdictNumber Near = 1
-verdictNumber Pass = 2
-verdictNumber Fail = 3
+abbrev pub verdict_number : Verdict → ℕ
+verdict_number Near = 1
+verdict_number Pass = 2
+verdict_number Fail = 3
 
 -- 0 where nothing is said
 unfoldable pub words_of : Named → Words
 words_of Nothing = record { lightness = 0; chroma = 0; hue = 0; bracket = 0; verdict = 0 }
 words_of (Names lightness chroma hue verdict) = record {
-  lightness = lightnessNumber lightness;
-  chroma = chromaNumber chroma;
-  hue = hueNumber hue;
-  bracket = bracketNumber hue;
-  verdict = verdictNumber verdict;
+  lightness = lightness_number lightness;
+  chroma = chroma_number chroma;
+  hue = hue_number hue;
+  bracket = bracket_number hue;
+  verdict = verdict_number verdict;
 }
 
 -- ---- the answers
 
-unfoldable pub referenceOf : ReferenceAnswer → Reference
-referenceOf x = record {
+unfoldable pub reference_of : ReferenceAnswer → Reference
+reference_of x = record {
   number = x.number;
   lightness = x.figures.L;
   a = x.figures.a;
@@ -72,8 +72,8 @@ referenceOf x = record {
   sh = x.figures.SH;
 }
 
-unfoldable pub specimenOf : SpecimenAnswer → Specimen
-specimenOf x = record {
+unfoldable pub specimen_of : SpecimenAnswer → Specimen
+specimen_of x = record {
   number = x.number;
   lightness = x.figures.L;
   a = x.figures.a;

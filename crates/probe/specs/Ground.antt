@@ -15,12 +15,12 @@ use Rattle.colour.specs.declared.white.Numbered.TheVariants.{Is, Unknown}
 
 -- ---- what a call is given
 
-abbrev pub quantityOf : ℕ → Quantity
-quantityOf n = cond (eqb n 1) Tristimulus (cond (eqb n 2) Lightness Opponent)
+abbrev pub quantity_of : ℕ → Quantity
+quantity_of n = cond (eqb n 1) Tristimulus (cond (eqb n 2) Lightness Opponent)
 
 -- below zero unless `below` is 0
-abbrev pub decimalOf : (below millionths : ℕ) → Decimal
-decimalOf below millionths = record { below = not (eqb below 0); millionths = millionths }
+abbrev pub decimal_of : (below millionths : ℕ) → Decimal
+decimal_of below millionths = record { below = not (eqb below 0); millionths = millionths }
 
 -- ---- what it answers
 
@@ -33,20 +33,20 @@ abbrev pub answer : ℕ → List ℤ → Answer
 answer n out = record { number = n; holds = out }
 
 -- the units in the first place, if there is one
-abbrev pub unitsAnswer : Units → List ℤ → Answer
-unitsAnswer (U.Of z) out = answer 0 (set out 0 z)
-unitsAnswer U.NotFinite out = answer 5 out
-unitsAnswer U.OutOfRange out = answer 6 out
+abbrev pub units_answer : Units → List ℤ → Answer
+units_answer (U.Of z) out = answer 0 (set out 0 z)
+units_answer U.NotFinite out = answer 5 out
+units_answer U.OutOfRange out = answer 6 out
 
 -- L*, a*, b* in a list of three
-abbrev pub colourStored : GridColour → List ℤ → List ℤ
-colourStored c out = cond (eqb (length out) 3) (set (set (set out 0 c.L.0) 1 c.a.0) 2 c.b.0) out
+abbrev pub colour_stored : GridColour → List ℤ → List ℤ
+colour_stored c out = cond (eqb (length out) 3) (set (set (set out 0 c.L.0) 1 c.a.0) 2 c.b.0) out
 
-abbrev pub placedAnswer : Placed → List ℤ → Answer
-placedAnswer (At c) out = answer 0 (colourStored c out)
-placedAnswer (Refused n) out = answer n out
+abbrev pub placed_answer : Placed → List ℤ → Answer
+placed_answer (At c) out = answer 0 (colour_stored c out)
+placed_answer (Refused n) out = answer n out
 
 -- a reading against the white of a number: 2 where there is none
-abbrev pub numberedAnswer : Numbered → Reading → List ℤ → Answer
-numberedAnswer (Is w) r out = placedAnswer (place w r) out
-numberedAnswer Unknown r out = answer 2 out
+abbrev pub numbered_answer : Numbered → Reading → List ℤ → Answer
+numbered_answer (Is w) r out = placed_answer (place w r) out
+numbered_answer Unknown r out = answer 2 out

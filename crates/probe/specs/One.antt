@@ -1,12 +1,12 @@
 -- Any two outcomes that a contract of `probe` admits on one input are equal: the number, and what `out` then holds. A
--- contract that is one equation with the result is not listed; `probe_printed` is under `printing`'s `prints-one`.
+-- contract that is one equation with the result is not listed; `probe_printed` is under `printing`'s `prints_one`.
 -- Assumes nothing.
 use Rattle.std.specs.Prelude.{◌≡◌, List, ℕ, Float, ℤ}
 use Rattle.std.proofs.Common.{sym, ap, ◌∙◌}
-use Rattle.reading.specs.Reading.{floatUnits, decimalUnits}
-use Rattle.colour.specs.White.{whiteNumbered}
+use Rattle.reading.specs.Reading.{float_units, decimal_units}
+use Rattle.colour.specs.White.{white_numbered}
 use Rattle.colour.specs.declared.placed.Reading.TheVariants.{Xyz, Lab}
-use Rattle.probe.specs.Ground.{Answer, answer, quantityOf, decimalOf, unitsAnswer, numberedAnswer}
+use Rattle.probe.specs.Ground.{Answer, answer, quantity_of, decimal_of, units_answer, numbered_answer}
 
 abbrev pub AnswersOne : Answer → Type 0
 AnswersOne a = (r q : ℕ) (xs ys : List ℤ) → answer r xs ≡ a → answer q ys ≡ a → (r ≡ q) × (xs ≡ ys)
@@ -17,20 +17,20 @@ answers_one a r q xs ys g h =
 
 module _ (out : List ℤ) where
   -- of `probe_units`
-  pub units-one : (quantity : ℕ) (x : Float) → AnswersOne (unitsAnswer (floatUnits (quantityOf quantity) x) out)
-  units-one quantity x = answers_one (unitsAnswer (floatUnits (quantityOf quantity) x) out)
+  pub units_one : (quantity : ℕ) (x : Float) → AnswersOne (units_answer (float_units (quantity_of quantity) x) out)
+  units_one quantity x = answers_one (units_answer (float_units (quantity_of quantity) x) out)
 
   -- of `probe_decimal`
-  pub decimal-one :
+  pub decimal_one :
       (quantity below millionths : ℕ) →
-      AnswersOne (unitsAnswer (decimalUnits (quantityOf quantity) (decimalOf below millionths)) out)
-  decimal-one quantity below millionths =
-      answers_one (unitsAnswer (decimalUnits (quantityOf quantity) (decimalOf below millionths)) out)
+      AnswersOne (units_answer (decimal_units (quantity_of quantity) (decimal_of below millionths)) out)
+  decimal_one quantity below millionths =
+      answers_one (units_answer (decimal_units (quantity_of quantity) (decimal_of below millionths)) out)
 
   -- of `probe_place_xyz`
-  pub place-xyz-one : (white : ℕ) (x y z : Float) → AnswersOne (numberedAnswer (whiteNumbered white) (Xyz x y z) out)
-  place-xyz-one white x y z = answers_one (numberedAnswer (whiteNumbered white) (Xyz x y z) out)
+  pub place_xyz_one : (white : ℕ) (x y z : Float) → AnswersOne (numbered_answer (white_numbered white) (Xyz x y z) out)
+  place_xyz_one white x y z = answers_one (numbered_answer (white_numbered white) (Xyz x y z) out)
 
   -- of `probe_place_lab`
-  pub place-lab-one : (white : ℕ) (l a b : Float) → AnswersOne (numberedAnswer (whiteNumbered white) (Lab l a b) out)
-  place-lab-one white l a b = answers_one (numberedAnswer (whiteNumbered white) (Lab l a b) out)
+  pub place_lab_one : (white : ℕ) (l a b : Float) → AnswersOne (numbered_answer (white_numbered white) (Lab l a b) out)
+  place_lab_one white l a b = answers_one (numbered_answer (white_numbered white) (Lab l a b) out)

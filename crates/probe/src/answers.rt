@@ -1,14 +1,14 @@
 // What load, judge and ticket hand back, as C takes it: figures as doubles, names and the verdict as numbers.
 ghost use Rattle.std.specs.Prelude.{◌≡◌};
 ghost use Rattle.colour.specs.declared.placed.Reading.TheVariants.{Xyz, Lab};
-ghost use Rattle.standard.specs.Acceptance.{settingsOf};
-ghost use Rattle.standard.specs.Figures.{referenceAnswer, specimenAnswer};
-ghost use Rattle.ticket.specs.Ticket.{ticketOf};
+ghost use Rattle.standard.specs.Acceptance.{settings_of};
+ghost use Rattle.standard.specs.Figures.{reference_answer, specimen_answer};
+ghost use Rattle.ticket.specs.Ticket.{ticket_of};
 ghost use Rattle.station.specs.Record.{decode};
-ghost use Rattle.calls.specs.Outcome.{loaded, judgedBy};
-ghost use Rattle.calls.specs.Line.{ticketAnswer};
-ghost use Rattle.probe.specs.Answers.{lightnessNumber, chromaNumber, axisNumber, hueNumber, bracketNumber};
-ghost use Rattle.probe.specs.Answers.{verdictNumber, words_of, referenceOf, specimenOf};
+ghost use Rattle.calls.specs.Outcome.{loaded, judged_by};
+ghost use Rattle.calls.specs.Line.{ticket_answer};
+ghost use Rattle.probe.specs.Answers.{lightness_number, chroma_number, axis_number, hue_number, bracket_number};
+ghost use Rattle.probe.specs.Answers.{verdict_number, words_of, reference_of, specimen_of};
 
 use calls::{judge_figures, load_figures, ticket_figures};
 use colour::placed::Reading;
@@ -58,7 +58,7 @@ pub struct Specimen {
 }
 
 fn lightness_number(x: Lightness) -> u32
-    ensures { result ≡ lightnessNumber x }
+    ensures { result ≡ lightness_number x }
 {
     match x {
         Lightness::Lighter => 1,
@@ -68,7 +68,7 @@ fn lightness_number(x: Lightness) -> u32
 }
 
 fn chroma_number(x: Chroma) -> u32
-    ensures { result ≡ chromaNumber x }
+    ensures { result ≡ chroma_number x }
 {
     match x {
         Chroma::More => 1,
@@ -78,7 +78,7 @@ fn chroma_number(x: Chroma) -> u32
 }
 
 fn axis_number(x: Axis) -> u32
-    ensures { result ≡ axisNumber x }
+    ensures { result ≡ axis_number x }
 {
     match x {
         Axis::Redder => 1,
@@ -89,7 +89,7 @@ fn axis_number(x: Axis) -> u32
 }
 
 fn hue_number(x: Hue) -> u32
-    ensures { result ≡ hueNumber x }
+    ensures { result ≡ hue_number x }
 {
     match x {
         Hue::Towards(name, _) => axis_number(name),
@@ -99,7 +99,7 @@ fn hue_number(x: Hue) -> u32
 
 // Equal in hue has no bracket.
 fn bracket_number(x: Hue) -> u32
-    ensures { result ≡ bracketNumber x }
+    ensures { result ≡ bracket_number x }
 {
     match x {
         Hue::Towards(_, bracket) => axis_number(bracket),
@@ -108,7 +108,7 @@ fn bracket_number(x: Hue) -> u32
 }
 
 fn verdict_number(x: Verdict) -> u32
-    ensures { result ≡ verdictNumber x }
+    ensures { result ≡ verdict_number x }
 {
     match x {
         Verdict::Near => 1,
@@ -139,7 +139,7 @@ fn words_of(n: Named) -> Words
 }
 
 fn specimen_of(x: SpecimenAnswer) -> Specimen
-    ensures { result ≡ specimenOf x }
+    ensures { result ≡ specimen_of x }
 {
     let names = x.names;
     let words = words_of(names);
@@ -158,7 +158,7 @@ fn specimen_of(x: SpecimenAnswer) -> Specimen
 }
 
 fn load_answer(formula: u32, white: u32, l: u32, c: u32, tolerance: u32, r: Reading) -> Reference
-    ensures { result ≡ referenceOf (referenceAnswer (loaded (settingsOf formula white l c tolerance) r)) }
+    ensures { result ≡ reference_of (reference_answer (loaded (settings_of formula white l c tolerance) r)) }
 {
     let x = load_figures(formula, white, l, c, tolerance, r);
     Reference {
@@ -174,7 +174,7 @@ fn load_answer(formula: u32, white: u32, l: u32, c: u32, tolerance: u32, r: Read
 }
 
 fn judge_answer(station: &[u8], r: Reading) -> Specimen
-    ensures { result ≡ specimenOf (specimenAnswer (judgedBy (decode station.now) r)) }
+    ensures { result ≡ specimen_of (specimen_answer (judged_by (decode station.now) r)) }
 {
     specimen_of(judge_figures(station, r))
 }
@@ -190,7 +190,7 @@ pub extern "C" fn probe_load_xyz(
     y: f64,
     z: f64,
 ) -> Reference
-    ensures { result ≡ referenceOf (referenceAnswer (loaded (settingsOf formula white l c tolerance) (Xyz x y z))) }
+    ensures { result ≡ reference_of (reference_answer (loaded (settings_of formula white l c tolerance) (Xyz x y z))) }
 {
     load_answer(formula, white, l, c, tolerance, Reading::Xyz(x, y, z))
 }
@@ -206,7 +206,7 @@ pub extern "C" fn probe_load_lab(
     a: f64,
     b: f64,
 ) -> Reference
-    ensures { result ≡ referenceOf (referenceAnswer (loaded (settingsOf formula white l c tolerance)
+    ensures { result ≡ reference_of (reference_answer (loaded (settings_of formula white l c tolerance)
         (Lab lightness a b))) }
 {
     load_answer(
@@ -221,21 +221,21 @@ pub extern "C" fn probe_load_lab(
 
 #[unsafe(no_mangle)]
 pub extern "C" fn probe_judge_xyz(station: &[u8], x: f64, y: f64, z: f64) -> Specimen
-    ensures { result ≡ specimenOf (specimenAnswer (judgedBy (decode station.now) (Xyz x y z))) }
+    ensures { result ≡ specimen_of (specimen_answer (judged_by (decode station.now) (Xyz x y z))) }
 {
     judge_answer(station, Reading::Xyz(x, y, z))
 }
 
 #[unsafe(no_mangle)]
 pub extern "C" fn probe_judge_lab(station: &[u8], lightness: f64, a: f64, b: f64) -> Specimen
-    ensures { result ≡ specimenOf (specimenAnswer (judgedBy (decode station.now) (Lab lightness a b))) }
+    ensures { result ≡ specimen_of (specimen_answer (judged_by (decode station.now) (Lab lightness a b))) }
 {
     judge_answer(station, Reading::Lab(lightness, a, b))
 }
 
 #[unsafe(no_mangle)]
 pub extern "C" fn probe_ticket(text: &[u8]) -> Specimen
-    ensures { result ≡ specimenOf (ticketAnswer (ticketOf text.now)).answer }
+    ensures { result ≡ specimen_of (ticket_answer (ticket_of text.now)).answer }
 {
     let x = ticket_figures(text);
     let answer = x.answer;
@@ -245,7 +245,7 @@ pub extern "C" fn probe_ticket(text: &[u8]) -> Specimen
 // The line that a ticket's answer carries.
 #[unsafe(no_mangle)]
 pub extern "C" fn probe_ticket_line(text: &[u8]) -> u32
-    ensures { result ≡ (ticketAnswer (ticketOf text.now)).line }
+    ensures { result ≡ (ticket_answer (ticket_of text.now)).line }
 {
     let x = ticket_figures(text);
     x.line

@@ -1,12 +1,12 @@
 // The lowest crates: roots, one number read or handed back, one colour placed.
 ghost use Rattle.std.specs.Prelude.{◌≡◌};
-ghost use Rattle.rounding.specs.Root.{rootOf};
-ghost use Rattle.reading.specs.Reading.{floatUnits, decimalUnits};
+ghost use Rattle.rounding.specs.Root.{root_of};
+ghost use Rattle.reading.specs.Reading.{float_units, decimal_units};
 ghost use Rattle.reading.specs.Grid.{value_of};
 ghost use Rattle.colour.specs.declared.placed.Reading.TheVariants.{Xyz, Lab};
-ghost use Rattle.colour.specs.White.{whiteNumbered};
-ghost use Rattle.probe.specs.Ground.{quantityOf, decimalOf, answer, unitsAnswer, colourStored, placedAnswer};
-ghost use Rattle.probe.specs.Ground.{numberedAnswer};
+ghost use Rattle.colour.specs.White.{white_numbered};
+ghost use Rattle.probe.specs.Ground.{quantity_of, decimal_of, answer, units_answer, colour_stored, placed_answer};
+ghost use Rattle.probe.specs.Ground.{numbered_answer};
 
 use colour::conversion::GridColour;
 use colour::placed::{Placed, Reading, place_reading};
@@ -18,20 +18,20 @@ use reading::quantity::{Quantity, Units};
 
 #[unsafe(no_mangle)]
 pub extern "C" fn probe_square_root(x: u64) -> u64
-    ensures { result ≡ rootOf 2 x }
+    ensures { result ≡ root_of 2 x }
 {
     rounding::roots::square_root(x)
 }
 
 #[unsafe(no_mangle)]
 pub extern "C" fn probe_cube_root(x: u64) -> u64
-    ensures { result ≡ rootOf 3 x }
+    ensures { result ≡ root_of 3 x }
 {
     rounding::roots::cube_root(x)
 }
 
 fn quantity_of(n: u32) -> Quantity
-    ensures { result ≡ quantityOf n }
+    ensures { result ≡ quantity_of n }
 {
     match n {
         1 => Quantity::Tristimulus,
@@ -42,7 +42,7 @@ fn quantity_of(n: u32) -> Quantity
 
 // The units into the first place of `out`, if it has one; the number of a refusal leaves it.
 fn store_units(u: Units, out: &mut [i64]) -> u32
-    ensures { answer result out.new ≡ unitsAnswer u out.old }
+    ensures { answer result out.new ≡ units_answer u out.old }
 {
     match u {
         Units::Of(z) => {
@@ -59,7 +59,7 @@ fn store_units(u: Units, out: &mut [i64]) -> u32
 // A float's units. Quantity 1 is X, Y or Z, 2 is L*, any other a* or b*.
 #[unsafe(no_mangle)]
 pub extern "C" fn probe_units(quantity: u32, x: f64, out: &mut [i64]) -> u32
-    ensures { answer result out.new ≡ unitsAnswer (floatUnits (quantityOf quantity) x) out.old }
+    ensures { answer result out.new ≡ units_answer (float_units (quantity_of quantity) x) out.old }
 {
     store_units(reading::float::float_units(quantity_of(quantity), x), out)
 }
@@ -67,7 +67,7 @@ pub extern "C" fn probe_units(quantity: u32, x: f64, out: &mut [i64]) -> u32
 // A decimal's units; it is below zero unless `below` is 0.
 #[unsafe(no_mangle)]
 pub extern "C" fn probe_decimal(quantity: u32, below: u32, millionths: u64, out: &mut [i64]) -> u32
-    ensures { answer result out.new ≡ unitsAnswer (decimalUnits (quantityOf quantity) (decimalOf below millionths))
+    ensures { answer result out.new ≡ units_answer (decimal_units (quantity_of quantity) (decimal_of below millionths))
         out.old }
 {
     let d = Decimal {
@@ -90,7 +90,7 @@ pub extern "C" fn probe_value(units: i64) -> f64
 
 // The grid units of L*, a*, b* into an `out` of three places, and into no other.
 fn store_colour(c: GridColour, out: &mut [i64])
-    ensures { out.new ≡ colourStored c out.old }
+    ensures { out.new ≡ colour_stored c out.old }
 {
     let l = c.L.0;
     let a = c.a.0;
@@ -104,7 +104,7 @@ fn store_colour(c: GridColour, out: &mut [i64])
 
 // A colour's grid units; the number of a refusal leaves `out`.
 fn store_place(p: Placed, out: &mut [i64]) -> u32
-    ensures { answer result out.new ≡ placedAnswer p out.old }
+    ensures { answer result out.new ≡ placed_answer p out.old }
 {
     match p {
         Placed::At(c) => {
@@ -117,7 +117,7 @@ fn store_place(p: Placed, out: &mut [i64]) -> u32
 
 // A reading against the white of a number, or 2 where there is none.
 fn place_numbered(white: u32, r: Reading, out: &mut [i64]) -> u32
-    ensures { answer result out.new ≡ numberedAnswer (whiteNumbered white) r out.old }
+    ensures { answer result out.new ≡ numbered_answer (white_numbered white) r out.old }
 {
     match White::numbered(white) {
         Numbered::Is(w) => store_place(place_reading(r, w), out),
@@ -128,7 +128,7 @@ fn place_numbered(white: u32, r: Reading, out: &mut [i64]) -> u32
 // Where X, Y, Z lie on the grid.
 #[unsafe(no_mangle)]
 pub extern "C" fn probe_place_xyz(white: u32, x: f64, y: f64, z: f64, out: &mut [i64]) -> u32
-    ensures { answer result out.new ≡ numberedAnswer (whiteNumbered white) (Xyz x y z) out.old }
+    ensures { answer result out.new ≡ numbered_answer (white_numbered white) (Xyz x y z) out.old }
 {
     place_numbered(white, Reading::Xyz(x, y, z), out)
 }
@@ -136,7 +136,7 @@ pub extern "C" fn probe_place_xyz(white: u32, x: f64, y: f64, z: f64, out: &mut 
 // Where L*, a*, b* lie on the grid.
 #[unsafe(no_mangle)]
 pub extern "C" fn probe_place_lab(white: u32, l: f64, a: f64, b: f64, out: &mut [i64]) -> u32
-    ensures { answer result out.new ≡ numberedAnswer (whiteNumbered white) (Lab l a b) out.old }
+    ensures { answer result out.new ≡ numbered_answer (white_numbered white) (Lab l a b) out.old }
 {
     place_numbered(white, Reading::Lab(l, a, b), out)
 }

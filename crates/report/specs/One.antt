@@ -6,8 +6,8 @@ use Rattle.standard.specs.declared.judge.Judgement.{Judgement}
 use Rattle.report.specs.Write.{Reported}
 
 -- of `write_report`
-pub reported-one :
+pub reported_one :
     (room : List ℕ) (column : ℕ) (j : Judgement) (n m : ℕ) (after others : List ℕ) →
     Reported room column j n after → Reported room column j m others → (n ≡ m) × (after ≡ others)
-reported-one room column j n m after others g h =
-    (g.number_is ∙ sym h.number_is, g.room-is ∙ sym h.room-is)
+reported_one room column j n m after others g h =
+    (g.number_is ∙ sym h.number_is, g.room_is ∙ sym h.room_is)

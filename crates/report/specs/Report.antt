@@ -6,11 +6,11 @@ use Rattle.sheet.specs.declared.differences.Differences.{Differences}
 use Rattle.sheet.specs.declared.settings.Settings.{Settings}
 use Rattle.standard.specs.declared.judge.Judgement.{Judgement}
 use Rattle.text.specs.Ascii.{ascii}
-use Rattle.text.specs.Decimal.{decimalText}
-use Rattle.text.specs.Names.{formulaName, whiteName}
+use Rattle.text.specs.Decimal.{decimal_text}
+use Rattle.text.specs.Names.{formula_name, white_name}
 use Rattle.text.specs.Put.{joined, line}
-use Rattle.lines.specs.Lines.{lightnessWord, chromaWord, hueWord, verdictWord, unlessWithheld, thousandths, figure}
-use Rattle.lines.specs.Lines.{signedFigure}
+use Rattle.lines.specs.Lines.{lightness_word, chroma_word, hue_word, verdict_word, unless_withheld, thousandths, figure}
+use Rattle.lines.specs.Lines.{signed_figure}
 pub mod Laws
 pub mod Cases
 pub mod Longest
@@ -18,36 +18,36 @@ pub mod Lines
 pub mod Withheld
 
 -- what the difference was worked out by
-unfoldable pub settingLines : Settings → List (List ℕ)
-settingLines s =
-    line (ascii "formula=") (formulaName s.formula)
-    ∷ line (ascii "white=") (whiteName s.white)
-    ∷ line (ascii "l=") (decimalText (thousandths s.l))
-    ∷ line (ascii "c=") (decimalText (thousandths s.c))
+unfoldable pub setting_lines : Settings → List (List ℕ)
+setting_lines s =
+    line (ascii "formula=") (formula_name s.formula)
+    ∷ line (ascii "white=") (white_name s.white)
+    ∷ line (ascii "l=") (decimal_text (thousandths s.l))
+    ∷ line (ascii "c=") (decimal_text (thousandths s.c))
     ∷ []
 
 -- what it is, in numbers
-unfoldable pub figureLines : (withheld : Bool) → Differences → List (List ℕ)
-figureLines withheld d =
-    line (ascii "DE=") (decimalText (figure false d.DE))
-    ∷ line (ascii "DL=") (decimalText (signedFigure d.DL))
-    ∷ line (ascii "DC=") (unlessWithheld withheld (decimalText (signedFigure d.DC)))
-    ∷ line (ascii "DH=") (unlessWithheld withheld (decimalText (signedFigure d.DH)))
+unfoldable pub figure_lines : (withheld : Bool) → Differences → List (List ℕ)
+figure_lines withheld d =
+    line (ascii "DE=") (decimal_text (figure false d.DE))
+    ∷ line (ascii "DL=") (decimal_text (signed_figure d.DL))
+    ∷ line (ascii "DC=") (unless_withheld withheld (decimal_text (signed_figure d.DC)))
+    ∷ line (ascii "DH=") (unless_withheld withheld (decimal_text (signed_figure d.DH)))
     ∷ []
 
 -- and in words
-unfoldable pub wordLines : Judgement → List (List ℕ)
-wordLines j =
-    line (ascii "lightness=") (lightnessWord j.lightness)
-    ∷ line (ascii "chroma=") (unlessWithheld j.withheld (chromaWord j.chroma))
-    ∷ line (ascii "hue=") (unlessWithheld j.withheld (hueWord j.hue))
-    ∷ line (ascii "verdict=") (verdictWord j.verdict)
+unfoldable pub word_lines : Judgement → List (List ℕ)
+word_lines j =
+    line (ascii "lightness=") (lightness_word j.lightness)
+    ∷ line (ascii "chroma=") (unless_withheld j.withheld (chroma_word j.chroma))
+    ∷ line (ascii "hue=") (unless_withheld j.withheld (hue_word j.hue))
+    ∷ line (ascii "verdict=") (verdict_word j.verdict)
     ∷ []
 
-abbrev pub reportParts : Judgement → List (List ℕ)
-reportParts j =
-    joined (settingLines j.standard.settings) ∷ joined (figureLines j.withheld j.comparison.differences)
-    ∷ joined (wordLines j) ∷ []
+abbrev pub report_parts : Judgement → List (List ℕ)
+report_parts j =
+    joined (setting_lines j.standard.settings) ∷ joined (figure_lines j.withheld j.comparison.differences)
+    ∷ joined (word_lines j) ∷ []
 
-unfoldable pub reportText : Judgement → List ℕ
-reportText j = joined (reportParts j)
+unfoldable pub report_text : Judgement → List ℕ
+report_text j = joined (report_parts j)

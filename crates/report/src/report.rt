@@ -1,7 +1,7 @@
 // The report and its line writer.
 ghost use Rattle.std.specs.Prelude.{◌≡◌, ◌≤◌, length};
 ghost use Rattle.text.specs.Put.{Room, Puts, put_at, joined};
-ghost use Rattle.report.specs.Report.{settingLines, figureLines, wordLines, reportText};
+ghost use Rattle.report.specs.Report.{setting_lines, figure_lines, word_lines, report_text};
 ghost use Rattle.report.specs.Write.{Reported};
 
 use colour::refusal::LENGTH;
@@ -19,7 +19,7 @@ use standard::judge::Judgement;
 
 // formula=, white=, l= and c=, each with its LF, are 22 bytes.
 fn settings_len(s: Settings) -> usize
-    ensures { (result ≡ length (joined (settingLines s))) × (result ≤ 84) }
+    ensures { (result ≡ length (joined (setting_lines s))) × (result ≤ 84) }
 {
     let formula = s.formula;
     let white = s.white;
@@ -27,8 +27,8 @@ fn settings_len(s: Settings) -> usize
 }
 
 fn put_settings(dst: &mut [u8], at: usize, s: Settings) -> usize
-    requires { Room dst.old at (joined (settingLines s)) }
-    ensures { Puts dst.old at (joined (settingLines s)) result dst.new }
+    requires { Room dst.old at (joined (setting_lines s)) }
+    ensures { Puts dst.old at (joined (setting_lines s)) result dst.new }
 {
     let formula = s.formula;
     let white = s.white;
@@ -41,7 +41,7 @@ fn put_settings(dst: &mut [u8], at: usize, s: Settings) -> usize
 }
 
 fn figures_len(withheld: bool, d: Differences) -> usize
-    ensures { (result ≡ length (joined (figureLines withheld d))) × (result ≤ 120) }
+    ensures { (result ≡ length (joined (figure_lines withheld d))) × (result ≤ 120) }
 {
     let always = 4 + figure_len(d.DE) + 4 + signed_len(d.DL);
     if withheld {
@@ -51,8 +51,8 @@ fn figures_len(withheld: bool, d: Differences) -> usize
 }
 
 fn put_figures(dst: &mut [u8], at: usize, withheld: bool, d: Differences) -> usize
-    requires { Room dst.old at (joined (figureLines withheld d)) }
-    ensures { Puts dst.old at (joined (figureLines withheld d)) result dst.new }
+    requires { Room dst.old at (joined (figure_lines withheld d)) }
+    ensures { Puts dst.old at (joined (figure_lines withheld d)) result dst.new }
 {
     let DE = figure_of(false, d.DE);
     let DL = signed_figure(d.DL);
@@ -66,7 +66,7 @@ fn put_figures(dst: &mut [u8], at: usize, withheld: bool, d: Differences) -> usi
 
 // lightness=, chroma=, hue= and verdict=, each with its LF, are 33 bytes.
 fn words_len(j: Judgement) -> usize
-    ensures { (result ≡ length (joined (wordLines j))) × (result ≤ 70) }
+    ensures { (result ≡ length (joined (word_lines j))) × (result ≤ 70) }
 {
     let lightness = j.lightness;
     let chroma = j.chroma;
@@ -79,8 +79,8 @@ fn words_len(j: Judgement) -> usize
 }
 
 fn put_words(dst: &mut [u8], at: usize, j: Judgement) -> usize
-    requires { Room dst.old at (joined (wordLines j)) }
-    ensures { Puts dst.old at (joined (wordLines j)) result dst.new }
+    requires { Room dst.old at (joined (word_lines j)) }
+    ensures { Puts dst.old at (joined (word_lines j)) result dst.new }
 {
     let lightness = j.lightness;
     let chroma = j.chroma;
@@ -94,7 +94,7 @@ fn put_words(dst: &mut [u8], at: usize, j: Judgement) -> usize
 
 // How many bytes the report takes.
 pub fn report_len(j: Judgement) -> usize
-    ensures { result ≡ length (reportText j) }
+    ensures { result ≡ length (report_text j) }
 {
     let settings = j.standard.settings;
     let differences = j.comparison.differences;
@@ -103,8 +103,8 @@ pub fn report_len(j: Judgement) -> usize
 
 // The line writer: the report goes to the start of the part that it is lent.
 fn write_lines(part: &mut [u8], j: Judgement)
-    requires { Room part.old 0 (reportText j) }
-    ensures { part.new ≡ put_at part.old 0 (reportText j) }
+    requires { Room part.old 0 (report_text j) }
+    ensures { part.new ≡ put_at part.old 0 (report_text j) }
 {
     let settings = j.standard.settings;
     let differences = j.comparison.differences;

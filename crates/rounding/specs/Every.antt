@@ -7,11 +7,11 @@ pub data Every {A : Type 0} (P : A → Type 0) : List A → Type 0 where
   more : {x : A} {xs : List A} → P x → Every P xs → Every P (x ∷ xs)
 
 -- of element i
-pub every-at :
+pub every_at :
     {A : Type 0} {P : A → Type 0} {xs : List A} → Every P xs → (i : ℕ) (d : A) → i < length xs → P (get_or xs i d)
-every-at none i d l = absurd (not-suc-le-zero l)
-every-at (more p ps) zero d l = p
-every-at (more p ps) (suc i) d l = every-at ps i d (le_of_suc-le-suc l)
+every_at none i d l = absurd (not-suc-le-zero l)
+every_at (more p ps) zero d l = p
+every_at (more p ps) (suc i) d l = every_at ps i d (le_of_suc-le-suc l)
 
 -- of each element's image
 pub every_map :

@@ -10,9 +10,9 @@ sum [] = pos 0
 sum (z ∷ zs) = z +ℤ sum zs
 
 -- z / n, to the nearest
-abbrev pub meanOf : (z : ℤ) (n : ℕ) → ℤ
-meanOf z n = rounded (minus z) ∣ z ∣ n
+abbrev pub mean_of : (z : ℤ) (n : ℕ) → ℤ
+mean_of z n = rounded (minus z) ∣ z ∣ n
 
 -- the sum over the count
 abbrev pub mean : List ℤ → ℤ
-mean zs = meanOf (sum zs) (length zs)
+mean zs = mean_of (sum zs) (length zs)

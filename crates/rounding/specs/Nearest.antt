@@ -5,12 +5,12 @@ use Rattle.rounding.specs.Signed.{signed}
 pub mod Laws
 
 -- the whole number nearest to a / c, a tie upwards: a / c + 1/2, rounded down
-abbrev pub nearestUp : (a c : ℕ) → ℕ
-nearestUp a c = (2 * a + c) / (2 * c)
+abbrev pub nearest_up : (a c : ℕ) → ℕ
+nearest_up a c = (2 * a + c) / (2 * c)
 
 -- a / c or, below zero, -a / c: its magnitude is rounded, so that a tie goes away from zero
 abbrev pub rounded : (below : Bool) (a c : ℕ) → ℤ
-rounded below a c = signed below (nearestUp a c)
+rounded below a c = signed below (nearest_up a c)
 
 -- how far two numbers are apart: one of the two differences stops at 0
 abbrev pub apart : (x y : ℕ) → ℕ

@@ -2,7 +2,7 @@
 ghost use Rattle.std.specs.Prelude.{◌≡◌, ◌+◌, ◌^◌, ◌<◌};
 ghost use Rattle.rounding.specs.Signed.{∣◌∣};
 ghost use Rattle.rounding.specs.Nearest.{rounded};
-ghost use Rattle.rounding.specs.Mean.{meanOf};
+ghost use Rattle.rounding.specs.Mean.{mean_of};
 
 use crate::signed::{magnitude, with_sign};
 
@@ -17,7 +17,7 @@ pub fn rounded(below: bool, num: u64, den: u64) -> i64
 // The mean of n numbers of this sum.
 pub fn mean_of(sum: i64, n: u64) -> i64
     requires { (0 < n) × (∣ sum ∣ + n < 2 ^ 63) }
-    ensures { result ≡ meanOf sum n }
+    ensures { result ≡ mean_of sum n }
 {
     rounded(sum < 0, magnitude(sum), n)
 }

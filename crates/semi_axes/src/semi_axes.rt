@@ -1,9 +1,9 @@
 // Lines 3 and 4, and the semi-axes of each formula.
 ghost use Rattle.std.specs.Prelude.{◌≡◌, ◌*◌, ◌^◌, ◌≤◌, ◌<◌};
-ghost use Rattle.colour.specs.Conversion.{atPlaces};
+ghost use Rattle.colour.specs.Conversion.{at_places};
 ghost use Rattle.colour.specs.Conversion.Ranges.{OnGrid};
 ghost use Rattle.sheet.specs.Ranges.{Both};
-ghost use Rattle.sheet.specs.Sheet.{semiAxisL, semiAxisC, semiAxesCIELAB, semiAxesCIE94, semiAxesCMC, semiAxes};
+ghost use Rattle.sheet.specs.Sheet.{semi_axis_l, semi_axis_c, semi_axes_cielab, semi_axes_cie94, semi_axes_cmc, semi_axes};
 
 use crate::chroma::chroma_at;
 use crate::hue::hue_semi_axis;
@@ -17,7 +17,7 @@ use sheet::semi_axes::SemiAxes;
 // Line 3. L* is at most 120, so the numerator fits 64 bits.
 fn semi_axis_l(l: u64) -> u64
     requires { l ≤ 120 * 2 ^ 20 }
-    ensures { result ≡ semiAxisL 20 l }
+    ensures { result ≡ semi_axis_l 20 l }
 {
     if l < 16 * Grid::UNITS_IN_ONE {
         return 511 * Grid::UNITS_IN_ONE / 1000;
@@ -28,7 +28,7 @@ fn semi_axis_l(l: u64) -> u64
 // Line 4. Its numerator at 20 places has 67 bits, so the places come by long division.
 fn semi_axis_c(c: u64) -> u64
     requires { c < 2 ^ 29 }
-    ensures { result ≡ semiAxisC 20 c }
+    ensures { result ≡ semi_axis_c 20 c }
 {
     let d = 10000 * Grid::UNITS_IN_ONE + 131 * c;
     fraction(638 * c * 1000 + d * 638, d * 1000, 20)
@@ -36,7 +36,7 @@ fn semi_axis_c(c: u64) -> u64
 
 fn semi_axes_cielab(a: i64, b: i64) -> SemiAxes
     requires { Both (2 ^ 28) a b }
-    ensures { result ≡ semiAxesCIELAB 20 a b }
+    ensures { result ≡ semi_axes_cielab 20 a b }
 {
     let c = chroma_at(a, b);
     SemiAxes {
@@ -49,7 +49,7 @@ fn semi_axes_cielab(a: i64, b: i64) -> SemiAxes
 
 fn semi_axes_cie94(a: i64, b: i64) -> SemiAxes
     requires { Both (2 ^ 28) a b }
-    ensures { result ≡ semiAxesCIE94 20 a b }
+    ensures { result ≡ semi_axes_cie94 20 a b }
 {
     let c = chroma_at(a, b);
     SemiAxes {
@@ -62,7 +62,7 @@ fn semi_axes_cie94(a: i64, b: i64) -> SemiAxes
 
 fn semi_axes_cmc(l: u64, a: i64, b: i64) -> SemiAxes
     requires { (l ≤ 120 * 2 ^ 20) × (Both (2 ^ 28) a b) }
-    ensures { result ≡ semiAxesCMC 20 l a b }
+    ensures { result ≡ semi_axes_cmc 20 l a b }
 {
     let c = chroma_at(a, b);
     let sl = semi_axis_l(l);
@@ -79,7 +79,7 @@ fn semi_axes_cmc(l: u64, a: i64, b: i64) -> SemiAxes
 // The chroma and the semi-axes of a reference.
 pub fn semi_axes_of(formula: Formula, r: GridColour) -> SemiAxes
     requires { OnGrid r }
-    ensures { result ≡ semiAxes 20 formula (atPlaces 20 r) }
+    ensures { result ≡ semi_axes 20 formula (at_places 20 r) }
 {
     match formula {
         Formula::CIELAB => semi_axes_cielab(r.a.0, r.b.0),

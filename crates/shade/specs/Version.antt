@@ -11,6 +11,6 @@ pub version : ℕ
 version = 100 * major + minor
 
 -- of 1.5 it is 105
-pub in-figures : 105 ≡ version
+pub in_figures : 105 ≡ version
 unfolding version major minor
-in-figures = refl
+in_figures = refl

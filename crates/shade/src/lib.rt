@@ -2,7 +2,7 @@
 ghost use Rattle.std.specs.Prelude.{◌≡◌};
 ghost use Rattle.shade.specs.Version.{version};
 ghost use Rattle.colour.specs.declared.placed.Reading.TheVariants.{Xyz, Lab};
-ghost use Rattle.calls.specs.Calls.{Gives, loadCall, judgeCall, ticketCall};
+ghost use Rattle.calls.specs.Calls.{Gives, load_call, judge_call, ticket_call};
 ghost use Rattle.calls.specs.Runs.{AsFresh};
 ghost use Rattle.cones.specs.declared.Kind.TheVariants as K;
 ghost use Rattle.delivery.specs.Sorted.{Sorts};
@@ -24,7 +24,7 @@ pub extern "C" fn shade_load_xyz(
     y: f64,
     z: f64,
 ) -> u32
-    ensures { Gives (loadCall station.old formula white l c tolerance (Xyz x y z)) result station.new }
+    ensures { Gives (load_call station.old formula white l c tolerance (Xyz x y z)) result station.new }
 {
     load_call(
         station,
@@ -49,7 +49,7 @@ pub extern "C" fn shade_load_lab(
     a: f64,
     b: f64,
 ) -> u32
-    ensures { Gives (loadCall station.old formula white l c tolerance (Lab lightness a b)) result
+    ensures { Gives (load_call station.old formula white l c tolerance (Lab lightness a b)) result
         station.new }
 {
     load_call(
@@ -72,7 +72,7 @@ pub extern "C" fn shade_judge_xyz(
     room: &mut [u8],
     column: usize,
 ) -> u32
-    ensures gives { Gives (judgeCall station.now (Xyz x y z) room.old column) result room.new }
+    ensures gives { Gives (judge_call station.now (Xyz x y z) room.old column) result room.new }
     ensures run { AsFresh station.now (Xyz x y z) room.old column result room.new }
 {
     judge_call(station, Reading::Xyz(x, y, z), room, column)
@@ -87,7 +87,7 @@ pub extern "C" fn shade_judge_lab(
     room: &mut [u8],
     column: usize,
 ) -> u32
-    ensures gives { Gives (judgeCall station.now (Lab lightness a b) room.old column) result
+    ensures gives { Gives (judge_call station.now (Lab lightness a b) room.old column) result
         room.new }
     ensures run { AsFresh station.now (Lab lightness a b) room.old column result room.new }
 {
@@ -96,7 +96,7 @@ pub extern "C" fn shade_judge_lab(
 
 #[unsafe(no_mangle)]
 pub extern "C" fn shade_ticket(text: &[u8], room: &mut [u8], column: usize) -> u32
-    ensures { Gives (ticketCall text.now room.old column) result room.new }
+    ensures { Gives (ticket_call text.now room.old column) result room.new }
 {
     ticket_call(text, room, column)
 }

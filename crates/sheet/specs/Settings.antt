@@ -9,14 +9,14 @@ pub mod Laws
 -- ---- formulas by number
 
 -- by which a load names them
-abbrev pub numberOfFormula : Formula → ℕ
-numberOfFormula CIELAB = 1
-numberOfFormula CIE94 = 2
-numberOfFormula CMC = 3
+abbrev pub number_of_formula : Formula → ℕ
+number_of_formula CIELAB = 1
+number_of_formula CIE94 = 2
+number_of_formula CMC = 3
 
 -- the formula of a number, if there is one
-unfoldable pub formulaNumbered : ℕ → NumberedFormula
-formulaNumbered n = cond (eqb n 1) (Is CIELAB) (cond (eqb n 2) (Is CIE94) (cond (eqb n 3) (Is CMC) Unknown))
+unfoldable pub formula_numbered : ℕ → NumberedFormula
+formula_numbered n = cond (eqb n 1) (Is CIELAB) (cond (eqb n 2) (Is CIE94) (cond (eqb n 3) (Is CMC) Unknown))
 
 -- ---- ranges
 
@@ -25,16 +25,16 @@ unfoldable pub within : (low high n : ℕ) → Bool
 within low high n = leb low n && leb n high
 
 -- l or c, in thousandths
-abbrev pub isFactor : (l : ℕ) → Bool
-isFactor l = within 500 10000 l
+abbrev pub is_factor : (l : ℕ) → Bool
+is_factor l = within 500 10000 l
 
 pub record Factor (l : ℕ) : Type 0 where
   pub low : 500 ≤ l
   pub high : l ≤ 10000
 
 -- a tolerance, in thousandths
-abbrev pub isTolerance : (t : ℕ) → Bool
-isTolerance t = within 100 10000 t
+abbrev pub is_tolerance : (t : ℕ) → Bool
+is_tolerance t = within 100 10000 t
 
 pub record Tolerance (t : ℕ) : Type 0 where
   pub low : 100 ≤ t

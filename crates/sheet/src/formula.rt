@@ -1,7 +1,7 @@
 // The three formulas.
 ghost use Rattle.std.specs.Prelude.{◌≡◌};
-ghost use Rattle.sheet.specs.Settings.{numberOfFormula, formulaNumbered};
-ghost use Rattle.sheet.specs.Sheet.{factorUnder};
+ghost use Rattle.sheet.specs.Settings.{number_of_formula, formula_numbered};
+ghost use Rattle.sheet.specs.Sheet.{factor_under};
 
 #[derive(Drop)]
 pub enum Formula {
@@ -20,7 +20,7 @@ pub enum NumberedFormula {
 impl Formula {
     // By which a load names the formula.
     pub fn number(self) -> u32
-        ensures { result ≡ numberOfFormula self }
+        ensures { result ≡ number_of_formula self }
     {
         match self {
             Formula::CIELAB => 1,
@@ -31,7 +31,7 @@ impl Formula {
 
     // l or c as the formula takes it.
     pub fn factor(self, l: u64) -> u64
-        ensures { result ≡ factorUnder self l }
+        ensures { result ≡ factor_under self l }
     {
         match self {
             Formula::CIELAB => 1000,
@@ -42,7 +42,7 @@ impl Formula {
 
     // The formula of a number.
     pub fn numbered(n: u32) -> NumberedFormula
-        ensures { result ≡ formulaNumbered n }
+        ensures { result ≡ formula_numbered n }
     {
         match n {
             1 => NumberedFormula::Is(Formula::CIELAB),

@@ -1,7 +1,7 @@
 // Differences and tolerances on the scale of their formula. Each scale has a type of its own, so that a tolerance fits
 // only its own formula's difference.
 ghost use Rattle.std.specs.Prelude.{◌≡◌, ◌^◌, ◌≤◌, ◌<◌};
-ghost use Rattle.sheet.specs.Sheet.{onScale, differenceOn, toleranceOn, verdictOn};
+ghost use Rattle.sheet.specs.Sheet.{on_scale, difference_on, tolerance_on, verdict_on};
 
 use crate::formula::Formula;
 use crate::verdict::{Verdict, compare};
@@ -27,7 +27,7 @@ pub enum Scaled {
 
 impl Scaled {
     fn on(formula: Formula, x: u64) -> Scaled
-        ensures { result ≡ onScale formula x }
+        ensures { result ≡ on_scale formula x }
     {
         match formula {
             Formula::CIELAB => Scaled::Cielab(Cielab(x)),
@@ -39,7 +39,7 @@ impl Scaled {
     // A DE in grid units.
     pub fn difference(formula: Formula, de: u64) -> Scaled
         requires { de < 2 ^ 32 }
-        ensures { result ≡ differenceOn formula de }
+        ensures { result ≡ difference_on formula de }
     {
         Scaled::on(formula, 1000 * de)
     }
@@ -47,14 +47,14 @@ impl Scaled {
     // A tolerance in thousandths.
     pub fn tolerance(formula: Formula, thousandths: u64) -> Scaled
         requires { thousandths ≤ 10000 }
-        ensures { result ≡ toleranceOn 20 formula thousandths }
+        ensures { result ≡ tolerance_on 20 formula thousandths }
     {
         Scaled::on(formula, thousandths * Grid::UNITS_IN_ONE)
     }
 
     // The verdict on a DE by a tolerance: one of another formula's scale accepts nothing.
     pub fn verdict(self, tolerance: Scaled) -> Verdict
-        ensures { result ≡ verdictOn 20 tolerance self }
+        ensures { result ≡ verdict_on 20 tolerance self }
     {
         match self {
             Scaled::Cielab(de) => match tolerance {

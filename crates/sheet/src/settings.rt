@@ -1,6 +1,6 @@
 // What differences are worked out and judged by, and the ranges of those numbers.
 ghost use Rattle.std.specs.Prelude.{◌≡◌};
-ghost use Rattle.sheet.specs.Settings.{within, isFactor, isTolerance};
+ghost use Rattle.sheet.specs.Settings.{within, is_factor, is_tolerance};
 
 use crate::formula::Formula;
 use colour::white::White;
@@ -26,14 +26,14 @@ fn is_within(low: u64, high: u64, n: u64) -> bool
 
 // Whether l, or c, lies in its range.
 pub fn is_factor(l: u64) -> bool
-    ensures { result ≡ isFactor l }
+    ensures { result ≡ is_factor l }
 {
     is_within(500, 10000, l)
 }
 
 // Whether a tolerance lies in its range.
 pub fn is_tolerance(t: u64) -> bool
-    ensures { result ≡ isTolerance t }
+    ensures { result ≡ is_tolerance t }
 {
     is_within(100, 10000, t)
 }

@@ -1,6 +1,6 @@
 // Lines 1 and 2.
 ghost use Rattle.std.specs.Prelude.{◌≡◌};
-ghost use Rattle.sheet.specs.Sheet.{sameHue};
+ghost use Rattle.sheet.specs.Sheet.{same_hue};
 
 // ΔL, ΔC and ΔH, in units of 2^-20.
 #[derive(Drop)]
@@ -12,7 +12,7 @@ pub struct Shift {
 
 // Whether the cross x is 0 and the dot y not negative.
 pub fn same_hue(x: i64, y: i64) -> bool
-    ensures { result ≡ sameHue x y }
+    ensures { result ≡ same_hue x y }
 {
     if x == 0 {
         return !(y < 0);

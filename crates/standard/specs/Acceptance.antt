@@ -2,14 +2,14 @@
 -- Assumes nothing.
 use Rattle.std.specs.Prelude.{◌≡◌, Bool, true, false, not, cond, List, [], ◌∷◌, ℕ, eqb}
 use Rattle.colour.specs.Conversion.Ranges.{OnGrid}
-use Rattle.colour.specs.Placed.{refusalOf}
-use Rattle.colour.specs.White.{whiteNumbered}
+use Rattle.colour.specs.Placed.{refusal_of}
+use Rattle.colour.specs.White.{white_numbered}
 use Rattle.colour.specs.declared.conversion.GridColour.{GridColour}
 use Rattle.colour.specs.declared.placed.Placed.{Placed}
 use Rattle.colour.specs.declared.placed.Placed.TheVariants as P
 use Rattle.colour.specs.declared.white.Numbered.{Numbered}
 use Rattle.colour.specs.declared.white.Numbered.TheVariants as W
-use Rattle.sheet.specs.Settings.{formulaNumbered, isFactor, isTolerance, Factor, Tolerance}
+use Rattle.sheet.specs.Settings.{formula_numbered, is_factor, is_tolerance, Factor, Tolerance}
 use Rattle.sheet.specs.declared.formula.NumberedFormula.{NumberedFormula}
 use Rattle.sheet.specs.declared.formula.NumberedFormula.TheVariants as F
 use Rattle.sheet.specs.declared.settings.Settings.{Settings}
@@ -18,45 +18,45 @@ use Rattle.standard.specs.declared.accept.SettingsOf.{SettingsOf}
 use Rattle.standard.specs.declared.accept.SettingsOf.TheVariants as S
 use Rattle.standard.specs.declared.accept.Acceptance.{Acceptance}
 use Rattle.standard.specs.declared.accept.Acceptance.TheVariants.{Refused, Accepted}
-use Rattle.standard.specs.Refusals.{Place, Fault, fault, refusal, atFormula, atWhite, atL, atC, atTolerance}
-use Rattle.standard.specs.Refusals.{atReference}
+use Rattle.standard.specs.Refusals.{Place, Fault, fault, refusal, at_formula, at_white, at_l, at_c, at_tolerance}
+use Rattle.standard.specs.Refusals.{at_reference}
 pub mod Numbers
 pub mod Laws
 
 -- ---- settings by the numbers of a load: 1, then 2, where a number names nothing
 
-abbrev pub noFormula : NumberedFormula → Bool
-noFormula (F.Is f) = false
-noFormula F.Unknown = true
+abbrev pub no_formula : NumberedFormula → Bool
+no_formula (F.Is f) = false
+no_formula F.Unknown = true
 
-abbrev pub noWhite : Numbered → Bool
-noWhite (W.Is w) = false
-noWhite W.Unknown = true
+abbrev pub no_white : Numbered → Bool
+no_white (W.Is w) = false
+no_white W.Unknown = true
 
-abbrev pub numberFaults : NumberedFormula → Numbered → List Fault
-numberFaults f w = fault atFormula 1 (noFormula f) ∷ fault atWhite 2 (noWhite w) ∷ []
+abbrev pub number_faults : NumberedFormula → Numbered → List Fault
+number_faults f w = fault at_formula 1 (no_formula f) ∷ fault at_white 2 (no_white w) ∷ []
 
 abbrev pub named : NumberedFormula → Numbered → (l c tolerance : ℕ) → SettingsOf
 named (F.Is f) (W.Is w) l c tolerance = S.Are (record { formula = f; white = w; l = l; c = c; tolerance = tolerance })
-named (F.Is f) W.Unknown l c tolerance = S.Refused (refusal (numberFaults (F.Is f) W.Unknown))
-named F.Unknown w l c tolerance = S.Refused (refusal (numberFaults F.Unknown w))
+named (F.Is f) W.Unknown l c tolerance = S.Refused (refusal (number_faults (F.Is f) W.Unknown))
+named F.Unknown w l c tolerance = S.Refused (refusal (number_faults F.Unknown w))
 
-unfoldable pub settingsOf : (formula white l c tolerance : ℕ) → SettingsOf
-settingsOf formula white l c tolerance = named (formulaNumbered formula) (whiteNumbered white) l c tolerance
+unfoldable pub settings_of : (formula white l c tolerance : ℕ) → SettingsOf
+settings_of formula white l c tolerance = named (formula_numbered formula) (white_numbered white) l c tolerance
 
 -- ---- settings and a reference: 3 for l, 3 for c, 4, then the reference's 5, 6 or 8
 
-unfoldable pub rangeFaults : (l c tolerance : ℕ) → List Fault
-rangeFaults l c tolerance =
-    fault atL 3 (not (isFactor l)) ∷ fault atC 3 (not (isFactor c)) ∷ fault atTolerance 4 (not (isTolerance tolerance))
+unfoldable pub range_faults : (l c tolerance : ℕ) → List Fault
+range_faults l c tolerance =
+    fault at_l 3 (not (is_factor l)) ∷ fault at_c 3 (not (is_factor c)) ∷ fault at_tolerance 4 (not (is_tolerance tolerance))
     ∷ []
 
 -- that of a reading, at its place in the order
-abbrev pub readingFault : Place → Placed → Fault
-readingFault p r = record { place = p; number = refusalOf r }
+abbrev pub reading_fault : Place → Placed → Fault
+reading_fault p r = record { place = p; number = refusal_of r }
 
-unfoldable pub acceptFaults : Settings → (reference : Placed) → List Fault
-acceptFaults s reference = readingFault atReference reference ∷ rangeFaults s.l s.c s.tolerance
+unfoldable pub accept_faults : Settings → (reference : Placed) → List Fault
+accept_faults s reference = reading_fault at_reference reference ∷ range_faults s.l s.c s.tolerance
 
 -- with no fault the reference is placed
 abbrev pub accepted : Settings → (reference : Placed) → Acceptance
@@ -65,7 +65,7 @@ accepted s (P.Refused n) = Refused n
 
 unfoldable pub acceptance : Settings → (reference : Placed) → Acceptance
 acceptance s reference =
-    let n : ℕ = refusal (acceptFaults s reference) in
+    let n : ℕ = refusal (accept_faults s reference) in
     cond (eqb n 0) (accepted s reference) (Refused n)
 
 -- its refusal's number, 0 for none

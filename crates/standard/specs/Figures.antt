@@ -2,9 +2,9 @@
 use Rattle.std.specs.Prelude.{false, ℕ, pos, Float}
 use Rattle.std.specs.Float.{fin}
 use Rattle.reading.specs.Grid.{value_of}
-use Rattle.colour.specs.Conversion.{atPlaces}
+use Rattle.colour.specs.Conversion.{at_places}
 use Rattle.colour.specs.declared.conversion.GridColour.{GridColour}
-use Rattle.sheet.specs.Sheet.{semiAxes}
+use Rattle.sheet.specs.Sheet.{semi_axes}
 use Rattle.sheet.specs.declared.differences.Differences.{Differences}
 use Rattle.sheet.specs.declared.semi_axes.SemiAxes.{SemiAxes}
 use Rattle.standard.specs.declared.accept.Standard.{Standard}
@@ -23,18 +23,18 @@ pub mod Exact
 abbrev pub zero : Float
 zero = fin false 0 (pos 0)
 
-abbrev pub noReference : ReferenceFigures
-noReference = record { L = zero; a = zero; b = zero; C = zero; SL = zero; SC = zero; SH = zero }
+abbrev pub no_reference : ReferenceFigures
+no_reference = record { L = zero; a = zero; b = zero; C = zero; SL = zero; SC = zero; SH = zero }
 
-abbrev pub noSpecimen : SpecimenFigures
-noSpecimen = record { L = zero; a = zero; b = zero; C = zero; DL = zero; DC = zero; DH = zero; DE = zero }
+abbrev pub no_specimen : SpecimenFigures
+no_specimen = record { L = zero; a = zero; b = zero; C = zero; DL = zero; DC = zero; DH = zero; DE = zero }
 
 -- ---- a load: the reference's L*, a*, b*, C, SL, SC and SH
 
-unfoldable pub referenceFigures : Standard → ReferenceFigures
-referenceFigures s =
+unfoldable pub reference_figures : Standard → ReferenceFigures
+reference_figures s =
     let R : GridColour = s.colour in
-    let S : SemiAxes = semiAxes 20 s.settings.formula (atPlaces 20 R) in
+    let S : SemiAxes = semi_axes 20 s.settings.formula (at_places 20 R) in
     record {
       L = value_of R.L.0;
       a = value_of R.a.0;
@@ -45,14 +45,14 @@ referenceFigures s =
       SH = value_of (pos S.SH);
     }
 
-unfoldable pub referenceAnswer : Acceptance → ReferenceAnswer
-referenceAnswer (A.Refused n) = record { number = n; figures = noReference }
-referenceAnswer (A.Accepted s) = record { number = 0; figures = referenceFigures s }
+unfoldable pub reference_answer : Acceptance → ReferenceAnswer
+reference_answer (A.Refused n) = record { number = n; figures = no_reference }
+reference_answer (A.Accepted s) = record { number = 0; figures = reference_figures s }
 
 -- ---- a judgement or a ticket: the test specimen's L*, a*, b* and C, then DL, DC, DH, DE
 
-unfoldable pub specimenFigures : (T : GridColour) (C : ℕ) → Differences → SpecimenFigures
-specimenFigures T C d = record {
+unfoldable pub specimen_figures : (T : GridColour) (C : ℕ) → Differences → SpecimenFigures
+specimen_figures T C d = record {
   L = value_of T.L.0;
   a = value_of T.a.0;
   b = value_of T.b.0;
@@ -63,8 +63,8 @@ specimenFigures T C d = record {
   DE = value_of (pos d.DE);
 }
 
-unfoldable pub specimenAnswer : Outcome → SpecimenAnswer
-specimenAnswer (O.Refused n) = record { number = n; figures = noSpecimen; names = Nothing }
-specimenAnswer (O.Judged j) =
-    let found : SpecimenFigures = specimenFigures j.test j.comparison.C j.comparison.differences in
+unfoldable pub specimen_answer : Outcome → SpecimenAnswer
+specimen_answer (O.Refused n) = record { number = n; figures = no_specimen; names = Nothing }
+specimen_answer (O.Judged j) =
+    let found : SpecimenFigures = specimen_figures j.test j.comparison.C j.comparison.differences in
     record { number = 0; figures = found; names = Names j.lightness j.chroma j.hue j.verdict }

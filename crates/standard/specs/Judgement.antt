@@ -4,10 +4,10 @@ use Rattle.colour.specs.Conversion.Ranges.{OnGrid}
 use Rattle.colour.specs.declared.conversion.GridColour.{GridColour}
 use Rattle.colour.specs.declared.placed.Placed.{Placed}
 use Rattle.colour.specs.declared.placed.Placed.TheVariants as P
-use Rattle.sheet.specs.Sheet.{comparison, toleranceOn, verdictOn}
+use Rattle.sheet.specs.Sheet.{comparison, tolerance_on, verdict_on}
 use Rattle.sheet.specs.declared.comparison.Comparison.{Comparison}
 use Rattle.sheet.specs.declared.settings.Settings.{Settings}
-use Rattle.names.specs.Names.{lightnessName, chromaName, hueName, withheldBy}
+use Rattle.names.specs.Names.{lightness_name, chroma_name, hue_name, withheld_by}
 use Rattle.standard.specs.declared.accept.Standard.{Standard}
 use Rattle.standard.specs.declared.judge.Judgement.{Judgement}
 use Rattle.standard.specs.declared.judge.Outcome.{Outcome}
@@ -17,24 +17,24 @@ pub mod Laws
 pub mod Withheld
 
 -- the sheet, the names and the verdict, all from the standard itself
-unfoldable pub judgementOf : Standard → (T : GridColour) → Judgement
-judgementOf s T =
+unfoldable pub judgement_of : Standard → (T : GridColour) → Judgement
+judgement_of s T =
     let by : Settings = s.settings in
     let found : Comparison = comparison 20 by.formula by.l by.c s.colour T in
     record {
       standard = s;
       test = T;
       comparison = found;
-      lightness = lightnessName found.shift.L;
-      chroma = chromaName found.shift.C;
-      hue = hueName s.colour T;
-      verdict = verdictOn 20 (toleranceOn 20 by.formula by.tolerance) found.scaled;
-      withheld = withheldBy by.formula s.colour T;
+      lightness = lightness_name found.shift.L;
+      chroma = chroma_name found.shift.C;
+      hue = hue_name s.colour T;
+      verdict = verdict_on 20 (tolerance_on 20 by.formula by.tolerance) found.scaled;
+      withheld = withheld_by by.formula s.colour T;
     }
 
 -- by the test specimen's place, or its refusal
 unfoldable pub outcome : Standard → (test : Placed) → Outcome
-outcome s (P.At T) = Judged (judgementOf s T)
+outcome s (P.At T) = Judged (judgement_of s T)
 outcome s (P.Refused n) = Refused n
 
 -- its refusal's number, 0 for none

@@ -5,14 +5,14 @@ pub mod Laws
 
 -- where a fault can be
 pub data Place : Type 0 where
-  atText atStation atCount atFormula atWhite atL atC atTolerance atReference atTest atRoom : Place
+  at_text at_station at_count at_formula at_white at_l at_c at_tolerance at_reference at_test at_room : Place
   deriving Discrete as place-discrete
 
 -- THE ONE ORDER: 7, 9, 11, 1, 2, 3 for l, 3 for c, 4, the reference's 5, 6 or 8, the test specimen's 5, 6 or 8 or
 -- that of the first refused cone, 10
 abbrev pub order : List Place
 order =
-    atText ∷ atStation ∷ atCount ∷ atFormula ∷ atWhite ∷ atL ∷ atC ∷ atTolerance ∷ atReference ∷ atTest ∷ atRoom ∷ []
+    at_text ∷ at_station ∷ at_count ∷ at_formula ∷ at_white ∷ at_l ∷ at_c ∷ at_tolerance ∷ at_reference ∷ at_test ∷ at_room ∷ []
 
 -- a refusal's number, or 0 where there is no fault
 pub record Fault : Type 0 where

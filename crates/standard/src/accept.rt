@@ -1,7 +1,7 @@
 // Accepts a standard: settings and a reference.
 ghost use Rattle.std.specs.Prelude.{◌≡◌};
 ghost use Rattle.standard.specs.Refusals.{refusal};
-ghost use Rattle.standard.specs.Acceptance.{settingsOf, rangeFaults, acceptance};
+ghost use Rattle.standard.specs.Acceptance.{settings_of, range_faults, acceptance};
 
 use colour::conversion::GridColour;
 use colour::placed::Placed;
@@ -34,7 +34,7 @@ pub enum Acceptance {
 
 // The settings that the numbers of a formula and of a white name: 1, then 2, where there is no such formula or white.
 pub fn settings_of(formula: u32, white: u32, l: u32, c: u32, tolerance: u32) -> SettingsOf
-    ensures { result ≡ settingsOf formula white l c tolerance }
+    ensures { result ≡ settings_of formula white l c tolerance }
 {
     match Formula::numbered(formula) {
         NumberedFormula::Unknown => SettingsOf::Refused(refusal::FORMULA),
@@ -53,7 +53,7 @@ pub fn settings_of(formula: u32, white: u32, l: u32, c: u32, tolerance: u32) -> 
 
 // 3 for l, then 3 for c, then 4, or 0.
 fn range_refusal(l: u64, c: u64, tolerance: u64) -> u32
-    ensures { result ≡ refusal (rangeFaults l c tolerance) }
+    ensures { result ≡ refusal (range_faults l c tolerance) }
 {
     if !is_factor(l) {
         return refusal::FACTOR;

@@ -2,7 +2,7 @@
 ghost use Rattle.std.specs.Prelude.{◌≡◌};
 ghost use Rattle.colour.specs.Conversion.Ranges.{OnGrid};
 ghost use Rattle.standard.specs.Acceptance.{ValidIn};
-ghost use Rattle.standard.specs.Figures.{referenceFigures, referenceAnswer, specimenFigures, specimenAnswer};
+ghost use Rattle.standard.specs.Figures.{reference_figures, reference_answer, specimen_figures, specimen_answer};
 
 use crate::accept::{Acceptance, Standard};
 use crate::judge::Outcome;
@@ -59,7 +59,7 @@ pub struct SpecimenAnswer {
 
 fn reference_figures(s: Standard) -> ReferenceFigures
     requires { OnGrid s.colour }
-    ensures { result ≡ referenceFigures s }
+    ensures { result ≡ reference_figures s }
 {
     let settings = s.settings;
     let formula = settings.formula;
@@ -79,7 +79,7 @@ fn reference_figures(s: Standard) -> ReferenceFigures
 // The answer of a load.
 pub fn reference_answer(a: Acceptance) -> ReferenceAnswer
     requires { ValidIn a }
-    ensures { result ≡ referenceAnswer a }
+    ensures { result ≡ reference_answer a }
 {
     match a {
         Acceptance::Refused(number) => ReferenceAnswer {
@@ -102,7 +102,7 @@ pub fn reference_answer(a: Acceptance) -> ReferenceAnswer
 }
 
 fn specimen_figures(test: GridColour, c: u64, d: Differences) -> SpecimenFigures
-    ensures { result ≡ specimenFigures test c d }
+    ensures { result ≡ specimen_figures test c d }
 {
     SpecimenFigures {
         L: test.L.value(),
@@ -118,7 +118,7 @@ fn specimen_figures(test: GridColour, c: u64, d: Differences) -> SpecimenFigures
 
 // The answer of a judgement or a ticket.
 pub fn specimen_answer(o: Outcome) -> SpecimenAnswer
-    ensures { result ≡ specimenAnswer o }
+    ensures { result ≡ specimen_answer o }
 {
     match o {
         Outcome::Refused(number) => SpecimenAnswer {

@@ -1,6 +1,6 @@
 // Judges a test specimen by a standard.
 ghost use Rattle.std.specs.Prelude.{◌≡◌};
-ghost use Rattle.standard.specs.Judgement.{Judgeable, Specimen, judgementOf, outcome};
+ghost use Rattle.standard.specs.Judgement.{Judgeable, Specimen, judgement_of, outcome};
 
 use crate::accept::Standard;
 use colour::conversion::GridColour;
@@ -35,7 +35,7 @@ pub enum Outcome {
 // The sheet, the names and the verdict: the semi-axes are worked out anew from the standard.
 fn judgement_of(s: Standard, t: GridColour) -> Judgement
     requires { Specimen s t }
-    ensures { result ≡ judgementOf s t }
+    ensures { result ≡ judgement_of s t }
 {
     let settings = s.settings;
     let formula = settings.formula;

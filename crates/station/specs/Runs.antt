@@ -5,28 +5,28 @@ use Rattle.standard.specs.declared.accept.Acceptance.{Acceptance}
 use Rattle.standard.specs.declared.accept.Acceptance.TheVariants.{Refused, Accepted}
 use Rattle.station.specs.declared.Station.{Station}
 use Rattle.station.specs.declared.Station.TheVariants.{Empty, Holds}
-use Rattle.station.specs.Record.{storeIn, zeros}
+use Rattle.station.specs.Record.{store_in, zeros}
 pub mod Laws
 
 -- the slice after an acceptance: what is refused leaves it
 abbrev pub left : List ℕ → Acceptance → List ℕ
 left xs (Refused n) = xs
-left xs (Accepted s) = storeIn s xs
+left xs (Accepted s) = store_in s xs
 
-unfoldable pub leftBy : List ℕ → List Acceptance → List ℕ
-leftBy xs [] = xs
-leftBy xs (a ∷ run) = leftBy (left xs a) run
+unfoldable pub left_by : List ℕ → List Acceptance → List ℕ
+left_by xs [] = xs
+left_by xs (a ∷ run) = left_by (left xs a) run
 
 -- the standard that was accepted last, if one was; `before` was, before the run
-unfoldable pub lastFrom : (before : Station) → List Acceptance → Station
-lastFrom before [] = before
-lastFrom before (Refused n ∷ run) = lastFrom before run
-lastFrom before (Accepted s ∷ run) = lastFrom (Holds s) run
+unfoldable pub last_from : (before : Station) → List Acceptance → Station
+last_from before [] = before
+last_from before (Refused n ∷ run) = last_from before run
+last_from before (Accepted s ∷ run) = last_from (Holds s) run
 
-abbrev pub lastAccepted : List Acceptance → Station
-lastAccepted run = lastFrom Empty run
+abbrev pub last_accepted : List Acceptance → Station
+last_accepted run = last_from Empty run
 
 -- the slice of a freshly started station that was given that standard alone
 unfoldable pub fresh : Station → List ℕ
 fresh Empty = zeros
-fresh (Holds s) = storeIn s zeros
+fresh (Holds s) = store_in s zeros

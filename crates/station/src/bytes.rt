@@ -1,6 +1,6 @@
 // Whole numbers as bytes, the least first, and back.
 ghost use Rattle.std.specs.Prelude.{◌≡◌, ◌+◌, ◌<◌, ◌≤◌, length};
-ghost use Rattle.station.specs.Record.{twosOf, ofTwos, two, four};
+ghost use Rattle.station.specs.Record.{twos_of, of_twos, two, four};
 
 use rounding::signed::{magnitude, with_sign};
 
@@ -28,7 +28,7 @@ pub(crate) fn four_at(s: &[u8], at: usize) -> u32
 
 // The number that stands in 32 bits, the highest for minus.
 pub(crate) fn of_twos(n: u32) -> i64
-    ensures { result ≡ ofTwos n }
+    ensures { result ≡ of_twos n }
 {
     if n < 2147483648 {
         return n as i64;
@@ -38,7 +38,7 @@ pub(crate) fn of_twos(n: u32) -> i64
 
 // A number in 32 bits.
 pub(crate) fn twos_of(z: i64) -> u64
-    ensures { result ≡ twosOf z }
+    ensures { result ≡ twos_of z }
 {
     if z < 0 {
         return 4294967296 - magnitude(z) % 4294967296;

@@ -1,7 +1,7 @@
 // The station's slice: formula 1 byte, white 1, l 2, c 2, tolerance 2, L* 4, a* 4, b* 4, the least byte first.
 ghost use Rattle.std.specs.Prelude.{◌≡◌, ◌+◌, ◌≤◌, length};
-ghost use Rattle.reading.specs.Grid.{gridOf};
-ghost use Rattle.station.specs.Record.{ofTwos, four, recordOf, encode, settingsIn, colourIn, placed};
+ghost use Rattle.reading.specs.Grid.{grid_of};
+ghost use Rattle.station.specs.Record.{of_twos, four, record_of, encode, settings_in, colour_in, placed};
 
 use crate::bytes::{four_at, of_twos, two_at, twos_of, wide};
 use colour::conversion::GridColour;
@@ -21,7 +21,7 @@ fn record_of(
     a: u64,
     b: u64,
 ) -> [u8; 20]
-    ensures { result ≡ recordOf formula white l c tolerance lightness a b }
+    ensures { result ≡ record_of formula white l c tolerance lightness a b }
 {
     [
         (formula % 256) as u8,
@@ -87,7 +87,7 @@ pub(crate) fn copy(dst: &mut [u8], src: &[u8])
 // The settings that stand in 20 bytes.
 pub(crate) fn settings_at(s: &[u8]) -> SettingsOf
     requires { length s.now ≡ 20 }
-    ensures { result ≡ settingsIn s.now }
+    ensures { result ≡ settings_in s.now }
 {
     settings_of(
         wide(s[0]),
@@ -100,7 +100,7 @@ pub(crate) fn settings_at(s: &[u8]) -> SettingsOf
 
 fn grid_at(s: &[u8], at: usize) -> Grid
     requires { at + 4 ≤ length s.now }
-    ensures { result ≡ gridOf (ofTwos (four s.now at)) }
+    ensures { result ≡ grid_of (of_twos (four s.now at)) }
 {
     Grid::of_units(of_twos(four_at(s, at)))
 }
@@ -108,7 +108,7 @@ fn grid_at(s: &[u8], at: usize) -> Grid
 // The colour that stands in 20 bytes, if it lies on the grid.
 pub(crate) fn colour_at(s: &[u8]) -> Placed
     requires { length s.now ≡ 20 }
-    ensures { result ≡ placed (colourIn s.now) }
+    ensures { result ≡ placed (colour_in s.now) }
 {
     let colour = GridColour {
         L: grid_at(s, 8),

@@ -24,5 +24,5 @@ starts_with [] s = true
 starts_with (k ∷ key) [] = false
 starts_with (k ∷ key) (x ∷ s) = eqb k x && starts_with key s
 
-unfoldable pub sameBytes : List ℕ → List ℕ → Bool
-sameBytes s t = eqb (length s) (length t) && starts_with s t
+unfoldable pub same_bytes : List ℕ → List ℕ → Bool
+same_bytes s t = eqb (length s) (length t) && starts_with s t

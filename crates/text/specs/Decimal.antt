@@ -2,7 +2,7 @@
 -- `Decimal/Signed.antt` with its sign; `Decimal/Laws.antt` has what callers go by, `Number/Written.antt` reads the
 -- digits back, and `Decimal/Cases.antt` has some figures. Assumes nothing.
 use Rattle.std.specs.Prelude.{Bool, cond, ◌&&◌, List, [], ◌∷◌, ℕ, zero, suc, ◌+◌, ◌*◌, ◌/◌, ◌%◌, ◌^◌, ltb}
-use Rattle.rounding.specs.Nearest.{nearestUp}
+use Rattle.rounding.specs.Nearest.{nearest_up}
 use Rattle.text.specs.Ascii.{ascii}
 use Rattle.text.specs.Put.{joined}
 use Rattle.text.specs.declared.decimal.Shown.{Shown}
@@ -11,17 +11,17 @@ pub mod Nearest
 pub mod Signed
 pub mod Laws
 
--- m units, of which perOne make one, counted in units of 10 ^ -places: to the nearest, a tie upwards, as a reading's
+-- m units, of which per_one make one, counted in units of 10 ^ -places: to the nearest, a tie upwards, as a reading's
 -- magnitude is. Every figure of a report is rounded here.
-unfoldable pub shown : (places perOne m : ℕ) → ℕ
-shown places perOne m = nearestUp (m * 10 ^ places) perOne
+unfoldable pub shown : (places per_one m : ℕ) → ℕ
+shown places per_one m = nearest_up (m * 10 ^ places) per_one
 
 -- ---- digits
 
 -- the last k digits of n, the first of them at 10 ^ (k - 1)
-unfoldable pub lastDigits : (k n : ℕ) → List ℕ
-lastDigits zero n = []
-lastDigits (suc k) n = (48 + n / 10 ^ k % 10) ∷ lastDigits k n
+unfoldable pub last_digits : (k n : ℕ) → List ℕ
+last_digits zero n = []
+last_digits (suc k) n = (48 + n / 10 ^ k % 10) ∷ last_digits k n
 
 -- how many digits n has without leading zeros, but at least one, counted in k turns at most
 unfoldable pub width_in : (k n : ℕ) → ℕ
@@ -33,28 +33,28 @@ abbrev pub width : ℕ → ℕ
 width n = width_in 20 n
 
 -- a whole number, without leading zeros
-abbrev pub wholeText : ℕ → List ℕ
-wholeText n = lastDigits (width n) n
+abbrev pub whole_text : ℕ → List ℕ
+whole_text n = last_digits (width n) n
 
 -- ---- a decimal
 
 -- a minus, if one is to be shown
-abbrev pub minusSign : Bool → List ℕ
-minusSign shows = cond shows (ascii "-") []
+abbrev pub minus_sign : Bool → List ℕ
+minus_sign shows = cond shows (ascii "-") []
 
 -- the sign, the whole ones, a point, the places
-abbrev pub decimalPieces : Shown → List (List ℕ)
-decimalPieces d = minusSign d.minus ∷ wholeText d.whole ∷ ascii "." ∷ lastDigits d.places d.units ∷ []
+abbrev pub decimal_pieces : Shown → List (List ℕ)
+decimal_pieces d = minus_sign d.minus ∷ whole_text d.whole ∷ ascii "." ∷ last_digits d.places d.units ∷ []
 
-unfoldable pub decimalText : Shown → List ℕ
-decimalText d = joined (decimalPieces d)
+unfoldable pub decimal_text : Shown → List ℕ
+decimal_text d = joined (decimal_pieces d)
 
 -- n units of 10 ^ -places, as they are
-abbrev pub withPlaces : (places : ℕ) (minus : Bool) (n : ℕ) → Shown
-withPlaces places minus n = record { places = places; minus = minus; whole = n / 10 ^ places; units = n }
+abbrev pub with_places : (places : ℕ) (minus : Bool) (n : ℕ) → Shown
+with_places places minus n = record { places = places; minus = minus; whole = n / 10 ^ places; units = n }
 
--- m units, of which perOne make one, with so many places: a minus only if a digit that is not zero is shown
-abbrev pub shownAs : (places perOne : ℕ) (below : Bool) (m : ℕ) → Shown
-shownAs places perOne below m =
-    let s : ℕ = shown places perOne m in
-    withPlaces places (below && ltb 0 s) s
+-- m units, of which per_one make one, with so many places: a minus only if a digit that is not zero is shown
+abbrev pub shown_as : (places per_one : ℕ) (below : Bool) (m : ℕ) → Shown
+shown_as places per_one below m =
+    let s : ℕ = shown places per_one m in
+    with_places places (below && ltb 0 s) s

@@ -14,9 +14,9 @@ abbrev pub content : Line → List ℕ
 content (ended s) = s
 content (unended s) = s
 
-abbrev pub isEnded : Line → Bool
-isEnded (ended s) = true
-isEnded (unended s) = false
+abbrev pub is_ended : Line → Bool
+is_ended (ended s) = true
+is_ended (unended s) = false
 
 -- the lines of a text that has the byte x, no LF, before these
 abbrev pub longer : ℕ → List Line → List Line
@@ -36,6 +36,6 @@ nth (suc zero) (x ∷ xs) = some x
 nth (suc (suc n)) (x ∷ xs) = nth (suc n) xs
 
 -- there is such a line, and it starts with the key
-abbrev pub startsLine : (key : List ℕ) → Option Line → Bool
-startsLine key none = false
-startsLine key (some x) = starts_with key (content x)
+abbrev pub starts_line : (key : List ℕ) → Option Line → Bool
+starts_line key none = false
+starts_line key (some x) = starts_with key (content x)

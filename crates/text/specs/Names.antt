@@ -7,13 +7,13 @@ use Rattle.sheet.specs.declared.formula.Formula.{Formula}
 use Rattle.sheet.specs.declared.formula.Formula.TheVariants.{CIELAB, CIE94, CMC}
 use Rattle.text.specs.Ascii.{ascii}
 
-abbrev pub formulaName : Formula → List ℕ
-formulaName CIELAB = ascii "CIELAB"
-formulaName CIE94 = ascii "CIE94"
-formulaName CMC = ascii "CMC"
+abbrev pub formula_name : Formula → List ℕ
+formula_name CIELAB = ascii "CIELAB"
+formula_name CIE94 = ascii "CIE94"
+formula_name CMC = ascii "CMC"
 
-abbrev pub whiteName : White → List ℕ
-whiteName D65Ten = ascii "D65/10"
-whiteName D65Two = ascii "D65/2"
-whiteName CTen = ascii "C/10"
-whiteName CTwo = ascii "C/2"
+abbrev pub white_name : White → List ℕ
+white_name D65Ten = ascii "D65/10"
+white_name D65Two = ascii "D65/2"
+white_name CTen = ascii "C/10"
+white_name CTwo = ascii "C/2"

@@ -14,13 +14,13 @@ numeral v [] = some v
 numeral v (d ∷ s) = cond (leb 48 d && leb d 57) (numeral (v * 10 + (d - 48)) s) none
 
 -- 1 to most digits
-unfoldable pub digitsOf : ℕ → List ℕ → Option ℕ
-digitsOf most s = cond (leb 1 (length s) && leb (length s) most) (numeral 0 s) none
+unfoldable pub digits_of : ℕ → List ℕ → Option ℕ
+digits_of most s = cond (leb 1 (length s) && leb (length s) most) (numeral 0 s) none
 
 -- no point and nothing after it, or a point and 1 to places digits; in units of the last of the places
-unfoldable pub fractionOf : ℕ → List ℕ → Option ℕ
-fractionOf places s =
-    cond (has 46 s) (map (λ d. d * 10 ^ (places - length (after 46 s))) (digitsOf places (after 46 s))) (some 0)
+unfoldable pub fraction_of : ℕ → List ℕ → Option ℕ
+fraction_of places s =
+    cond (has 46 s) (map (λ d. d * 10 ^ (places - length (after 46 s))) (digits_of places (after 46 s))) (some 0)
 
 abbrev pub both : {A B C : Type 0} → (A → B → C) → Option A → Option B → Option C
 both f none q = none
@@ -28,18 +28,18 @@ both f (some x) none = none
 both f (some x) (some y) = some (f x y)
 
 -- 1 to whole digits, then perhaps a point and 1 to places digits; in units of the last of the places
-unfoldable pub decimalOf : ℕ → ℕ → List ℕ → Option ℕ
-decimalOf whole places s = both (λ v d. v * 10 ^ places + d) (digitsOf whole (before 46 s)) (fractionOf places s)
+unfoldable pub decimal_of : ℕ → ℕ → List ℕ → Option ℕ
+decimal_of whole places s = both (λ v d. v * 10 ^ places + d) (digits_of whole (before 46 s)) (fraction_of places s)
 
 -- l, c, tol: 1 or 2 digits, then perhaps a point and 1 to 3 digits
-abbrev pub thousandthsOf : List ℕ → Option ℕ
-thousandthsOf = decimalOf 2 3
+abbrev pub thousandths_of : List ℕ → Option ℕ
+thousandths_of = decimal_of 2 3
 
-abbrev pub decimalBelow : Bool → ℕ → Decimal
-decimalBelow below m = record { below = below; millionths = m }
+abbrev pub decimal_below : Bool → ℕ → Decimal
+decimal_below below m = record { below = below; millionths = m }
 
 -- ref, test: perhaps a minus, 1 to 3 digits, perhaps a point and 1 to 6 digits
 unfoldable pub signed_of : List ℕ → Option Decimal
 signed_of s =
-    cond (starts_with (ascii "-") s) (map (decimalBelow true) (decimalOf 3 6 (drop 1 s)))
-    (map (decimalBelow false) (decimalOf 3 6 s))
+    cond (starts_with (ascii "-") s) (map (decimal_below true) (decimal_of 3 6 (drop 1 s)))
+    (map (decimal_below false) (decimal_of 3 6 s))

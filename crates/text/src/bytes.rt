@@ -1,6 +1,6 @@
 // Bytes that are looked for in a text, and the text's parts.
 ghost use Rattle.std.specs.Prelude.{◌≡◌};
-ghost use Rattle.text.specs.Bytes.{starts_with, sameBytes, before, after};
+ghost use Rattle.text.specs.Bytes.{starts_with, same_bytes, before, after};
 ghost use Rattle.text.specs.Bytes.Laws.{Found};
 
 // Where b first stands in s, or s's length.
@@ -35,7 +35,7 @@ pub fn starts(s: &[u8], key: &[u8]) -> bool
 }
 
 pub fn same(s: &[u8], t: &[u8]) -> bool
-    ensures { result ≡ sameBytes s.now t.now }
+    ensures { result ≡ same_bytes s.now t.now }
 {
     if s.len() == t.len() {
         starts(t, s)

@@ -1,7 +1,7 @@
 // Whole numbers and decimals put into a lent slice, and their lengths.
 ghost use Rattle.std.specs.Prelude.{◌≡◌, ◌+◌, ◌≤◌, length};
 ghost use Rattle.text.specs.Put.{Room, Puts};
-ghost use Rattle.text.specs.Decimal.{wholeText, lastDigits, minusSign, decimalText};
+ghost use Rattle.text.specs.Decimal.{whole_text, last_digits, minus_sign, decimal_text};
 
 use crate::put::put;
 
@@ -17,7 +17,7 @@ pub struct Shown {
 
 // How many digits n has.
 pub fn whole_len(n: u64) -> usize
-    ensures { (result ≡ length (wholeText n)) × (result ≤ 20) }
+    ensures { (result ≡ length (whole_text n)) × (result ≤ 20) }
 {
     let mut left = n;
     let mut k = 1;
@@ -30,8 +30,8 @@ pub fn whole_len(n: u64) -> usize
 
 // Puts the last k digits of n, from the last one back.
 fn put_digits(dst: &mut [u8], at: usize, k: usize, n: u64) -> usize
-    requires { Room dst.old at (lastDigits k n) }
-    ensures { Puts dst.old at (lastDigits k n) result dst.new }
+    requires { Room dst.old at (last_digits k n) }
+    ensures { Puts dst.old at (last_digits k n) result dst.new }
 {
     let mut left = n;
     let mut j = k;
@@ -45,15 +45,15 @@ fn put_digits(dst: &mut [u8], at: usize, k: usize, n: u64) -> usize
 
 // Puts a whole number.
 pub fn put_whole(dst: &mut [u8], at: usize, n: u64) -> usize
-    requires { Room dst.old at (wholeText n) }
-    ensures { Puts dst.old at (wholeText n) result dst.new }
+    requires { Room dst.old at (whole_text n) }
+    ensures { Puts dst.old at (whole_text n) result dst.new }
 {
     put_digits(dst, at, whole_len(n), n)
 }
 
 fn put_minus(dst: &mut [u8], at: usize, shows: bool) -> usize
-    requires { Room dst.old at (minusSign shows) }
-    ensures { Puts dst.old at (minusSign shows) result dst.new }
+    requires { Room dst.old at (minus_sign shows) }
+    ensures { Puts dst.old at (minus_sign shows) result dst.new }
 {
     if shows {
         return put(dst, at, b"-");
@@ -63,7 +63,7 @@ fn put_minus(dst: &mut [u8], at: usize, shows: bool) -> usize
 
 // How many bytes a decimal takes.
 pub fn decimal_len(d: Shown) -> usize
-    ensures { (result ≡ length (decimalText d)) × (result ≤ 22 + d.places) }
+    ensures { (result ≡ length (decimal_text d)) × (result ≤ 22 + d.places) }
 {
     let unsigned = whole_len(d.whole) + 1 + d.places as usize;
     if d.minus { 1 + unsigned } else { unsigned }
@@ -71,8 +71,8 @@ pub fn decimal_len(d: Shown) -> usize
 
 // Puts a decimal.
 pub fn put_decimal(dst: &mut [u8], at: usize, d: Shown) -> usize
-    requires { Room dst.old at (decimalText d) }
-    ensures { Puts dst.old at (decimalText d) result dst.new }
+    requires { Room dst.old at (decimal_text d) }
+    ensures { Puts dst.old at (decimal_text d) result dst.new }
 {
     let after_minus = put_minus(dst, at, d.minus);
     let after_whole = put_whole(dst, after_minus, d.whole);

@@ -1,7 +1,7 @@
 // Numbers in decimal digits.
 ghost use Rattle.std.specs.Prelude.{◌≡◌, ◌≤◌, ◌^◌, length};
-ghost use Rattle.text.specs.Number.{numeral, digitsOf, fractionOf, decimalOf, thousandthsOf, signed_of};
-ghost use Rattle.text.specs.Number.Laws.{number_in, signedIn, Sizes};
+ghost use Rattle.text.specs.Number.{numeral, digits_of, fraction_of, decimal_of, thousandths_of, signed_of};
+ghost use Rattle.text.specs.Number.Laws.{number_in, signed_in, Sizes};
 
 use crate::bytes::{find, part_after, part_before, starts};
 use reading::decimal::Decimal;
@@ -49,7 +49,7 @@ fn value_of_digits(s: &[u8]) -> NumberRead
 // 1 to most digits.
 fn digits(s: &[u8], most: usize) -> NumberRead
     requires { most ≤ 6 }
-    ensures { number_in result ≡ digitsOf most s.now }
+    ensures { number_in result ≡ digits_of most s.now }
 {
     if s.len() < 1 {
         return NumberRead::Nothing;
@@ -72,7 +72,7 @@ fn power(n: usize) -> u64
 // What stands after the point, if there is one, in units of the last of the places.
 fn fraction(s: &[u8], places: usize) -> NumberRead
     requires { places ≤ 6 }
-    ensures { number_in result ≡ fractionOf places s.now }
+    ensures { number_in result ≡ fraction_of places s.now }
 {
     if find(s, 46) < s.len() {
         let t = part_after(s, 46);
@@ -88,7 +88,7 @@ fn fraction(s: &[u8], places: usize) -> NumberRead
 // 1 to whole digits, then perhaps a point and 1 to places digits, in units of the last of the places.
 fn decimal(s: &[u8], whole: usize, places: usize) -> NumberRead
     requires { Sizes whole places }
-    ensures { number_in result ≡ decimalOf whole places s.now }
+    ensures { number_in result ≡ decimal_of whole places s.now }
 {
     match digits(part_before(s, 46), whole) {
         NumberRead::Nothing => NumberRead::Nothing,
@@ -101,14 +101,14 @@ fn decimal(s: &[u8], whole: usize, places: usize) -> NumberRead
 
 // The number of a line l, c or tol, in thousandths.
 pub fn thousandths(s: &[u8]) -> NumberRead
-    ensures { number_in result ≡ thousandthsOf s.now }
+    ensures { number_in result ≡ thousandths_of s.now }
 {
     decimal(s, 2, 3)
 }
 
 // A number of a line ref or test.
 pub fn signed(s: &[u8]) -> SignedRead
-    ensures { signedIn result ≡ signed_of s.now }
+    ensures { signed_in result ≡ signed_of s.now }
 {
     if starts(s, b"-") {
         match decimal(&s[1..], 3, 6) {

@@ -5,9 +5,9 @@
 use Rattle.std.specs.Prelude.{ℕ, ◌+◌, cond, ◌&&◌, List, [], ◌∷◌, ltb, length, drop}
 use Rattle.std.proofs.Math.Option.{Option, none, some}
 use Rattle.text.specs.Ascii.{ascii}
-use Rattle.text.specs.Bytes.{has, before, after, starts_with, sameBytes}
-use Rattle.text.specs.Names.{formulaName, whiteName}
-use Rattle.text.specs.Number.{both, thousandthsOf, signed_of}
+use Rattle.text.specs.Bytes.{has, before, after, starts_with, same_bytes}
+use Rattle.text.specs.Names.{formula_name, white_name}
+use Rattle.text.specs.Number.{both, thousandths_of, signed_of}
 use Rattle.reading.specs.declared.decimal.Decimal.{Decimal}
 use Rattle.colour.specs.declared.placed.Written.{Written}
 use Rattle.colour.specs.declared.placed.Written.TheVariants as W
@@ -33,24 +33,24 @@ pub mod Cases
 -- the one of xs whose name s is
 unfoldable pub named : {A : Type 0} → (name : A → List ℕ) (xs : List A) (s : List ℕ) → Option A
 named name [] s = none
-named name (x ∷ xs) s = cond (sameBytes s (name x)) (some x) (named name xs s)
+named name (x ∷ xs) s = cond (same_bytes s (name x)) (some x) (named name xs s)
 
-abbrev pub formulaNamed : List ℕ → Option Formula
-formulaNamed s = named formulaName (CIELAB ∷ CIE94 ∷ CMC ∷ []) s
+abbrev pub formula_named : List ℕ → Option Formula
+formula_named s = named formula_name (CIELAB ∷ CIE94 ∷ CMC ∷ []) s
 
-abbrev pub whiteNamed : List ℕ → Option White
-whiteNamed s = named whiteName (D65Ten ∷ D65Two ∷ CTen ∷ CTwo ∷ []) s
+abbrev pub white_named : List ℕ → Option White
+white_named s = named white_name (D65Ten ∷ D65Two ∷ CTen ∷ CTwo ∷ []) s
 
-abbrev pub spaceName : Space → List ℕ
-spaceName Xyz = ascii "XYZ"
-spaceName Lab = ascii "LAB"
+abbrev pub space_name : Space → List ℕ
+space_name Xyz = ascii "XYZ"
+space_name Lab = ascii "LAB"
 
-abbrev pub spaceNamed : List ℕ → Option Space
-spaceNamed s = named spaceName (Xyz ∷ Lab ∷ []) s
+abbrev pub space_named : List ℕ → Option Space
+space_named s = named space_name (Xyz ∷ Lab ∷ []) s
 
-unfoldable pub inSpace : Space → (x y z : Decimal) → Written
-inSpace Xyz x y z = W.Xyz x y z
-inSpace Lab x y z = W.Lab x y z
+unfoldable pub in_space : Space → (x y z : Decimal) → Written
+in_space Xyz x y z = W.Xyz x y z
+in_space Lab x y z = W.Lab x y z
 
 abbrev pub space_of : Written → Space
 space_of (W.Xyz x y z) = Xyz
@@ -62,14 +62,14 @@ three f p q r = both (λ g z. g z) (both f p q) r
 -- three numbers, one space between
 unfoldable pub reading_of : Space → List ℕ → Option Written
 reading_of space s =
-    three (inSpace space) (signed_of (before 32 s)) (signed_of (before 32 (after 32 s)))
+    three (in_space space) (signed_of (before 32 s)) (signed_of (before 32 (after 32 s)))
     (signed_of (after 32 (after 32 s)))
 
 -- ---- a line
 
-abbrev pub orWrong : {A : Type 0} → ℕ → Option A → (A → Parsed) → Parsed
-orWrong n none next = Wrong n
-orWrong n (some x) next = next x
+abbrev pub or_wrong : {A : Type 0} → ℕ → Option A → (A → Parsed) → Parsed
+or_wrong n none next = Wrong n
+or_wrong n (some x) next = next x
 
 -- The text s starts with line n, a line KEY=VALUE that ends at the first LF. A line that is missing or lacks its LF,
 -- another key and a value that says nothing are wrong; otherwise `next` has what the value says, and the text after the
@@ -77,58 +77,58 @@ orWrong n (some x) next = next x
 unfoldable pub due : {A : Type 0} → ℕ → (key : List ℕ) → (List ℕ → Option A) → (A → List ℕ → Parsed) → List ℕ → Parsed
 due n key value next s =
     cond (has 10 s && starts_with key (before 10 s))
-    (orWrong n (value (drop (length key) (before 10 s))) (λ x. next x (after 10 s)))
+    (or_wrong n (value (drop (length key) (before 10 s))) (λ x. next x (after 10 s)))
     (Wrong n)
 
 -- ---- the lines in their order, the last one first
 -- n is the number of the line that the text starts with, p the settings so far
 
 -- nothing may follow
-unfoldable pub nothingMore : ℕ → Ticket → List ℕ → Parsed
-nothingMore n t [] = Right t
-nothingMore n t (x ∷ s) = Wrong n
+unfoldable pub nothing_more : ℕ → Ticket → List ℕ → Parsed
+nothing_more n t [] = Right t
+nothing_more n t (x ∷ s) = Wrong n
 
-unfoldable pub testLine : ℕ → Settings → Space → (reference : Written) → List ℕ → Parsed
-testLine n p space r =
+unfoldable pub test_line : ℕ → Settings → Space → (reference : Written) → List ℕ → Parsed
+test_line n p space r =
     due n (ascii "test=") (reading_of space)
-    (λ t. nothingMore (n + 1) (record { settings = p; reference = r; test = t }))
+    (λ t. nothing_more (n + 1) (record { settings = p; reference = r; test = t }))
 
-unfoldable pub refLine : ℕ → Settings → Space → List ℕ → Parsed
-refLine n p space = due n (ascii "ref=") (reading_of space) (testLine (n + 1) p space)
+unfoldable pub ref_line : ℕ → Settings → Space → List ℕ → Parsed
+ref_line n p space = due n (ascii "ref=") (reading_of space) (test_line (n + 1) p space)
 
-unfoldable pub spaceLine : ℕ → Settings → List ℕ → Parsed
-spaceLine n p = due n (ascii "space=") spaceNamed (refLine (n + 1) p)
+unfoldable pub space_line : ℕ → Settings → List ℕ → Parsed
+space_line n p = due n (ascii "space=") space_named (ref_line (n + 1) p)
 
 -- a line fills in its own setting
 abbrev pub filled : Settings → (l c tolerance : ℕ) → Settings
 filled p l c tolerance = record { formula = p.formula; white = p.white; l = l; c = c; tolerance = tolerance }
 
-unfoldable pub tolLine : ℕ → Settings → List ℕ → Parsed
-tolLine n p = due n (ascii "tol=") thousandthsOf (λ x. spaceLine (n + 1) (filled p p.l p.c x))
+unfoldable pub tol_line : ℕ → Settings → List ℕ → Parsed
+tol_line n p = due n (ascii "tol=") thousandths_of (λ x. space_line (n + 1) (filled p p.l p.c x))
 
-unfoldable pub cLine : ℕ → Settings → List ℕ → Parsed
-cLine n p = due n (ascii "c=") thousandthsOf (λ x. tolLine (n + 1) (filled p p.l x p.tolerance))
+unfoldable pub c_line : ℕ → Settings → List ℕ → Parsed
+c_line n p = due n (ascii "c=") thousandths_of (λ x. tol_line (n + 1) (filled p p.l x p.tolerance))
 
 -- l and c may both be missing; a line that starts with tol= says so
-unfoldable pub factorLines : ℕ → Settings → List ℕ → Parsed
-factorLines n p s =
-    cond (starts_with (ascii "tol=") s) (tolLine n p s)
-    (due n (ascii "l=") thousandthsOf (λ x. cLine (n + 1) (filled p x p.c p.tolerance)) s)
+unfoldable pub factor_lines : ℕ → Settings → List ℕ → Parsed
+factor_lines n p s =
+    cond (starts_with (ascii "tol=") s) (tol_line n p s)
+    (due n (ascii "l=") thousandths_of (λ x. c_line (n + 1) (filled p x p.c p.tolerance)) s)
 
 -- l and c where both their lines are missing, in thousandths: for the acceptability of a match
-abbrev pub missingL : ℕ
-missingL = 2000
+abbrev pub missing_l : ℕ
+missing_l = 2000
 
-abbrev pub missingC : ℕ
-missingC = 1000
+abbrev pub missing_c : ℕ
+missing_c = 1000
 
 -- before the line l; no ticket lacks a tolerance
 abbrev pub blank : Formula → White → Settings
-blank f w = record { formula = f; white = w; l = missingL; c = missingC; tolerance = 0 }
+blank f w = record { formula = f; white = w; l = missing_l; c = missing_c; tolerance = 0 }
 
-unfoldable pub whiteLine : ℕ → Formula → List ℕ → Parsed
-whiteLine n f = due n (ascii "white=") whiteNamed (λ w. factorLines (n + 1) (blank f w))
+unfoldable pub white_line : ℕ → Formula → List ℕ → Parsed
+white_line n f = due n (ascii "white=") white_named (λ w. factor_lines (n + 1) (blank f w))
 
 -- THE TICKET: at most 4,096 bytes
-unfoldable pub ticketOf : List ℕ → Parsed
-ticketOf s = cond (ltb 4096 (length s)) (Wrong 0) (due 1 (ascii "formula=") formulaNamed (whiteLine 2) s)
+unfoldable pub ticket_of : List ℕ → Parsed
+ticket_of s = cond (ltb 4096 (length s)) (Wrong 0) (due 1 (ascii "formula=") formula_named (white_line 2) s)

@@ -1,8 +1,8 @@
 // The lines of a ticket, in their order: each function reads one line of what is left of the text, and hands the rest
 // on.
 ghost use Rattle.std.specs.Prelude.{◌≡◌, ◌≤◌};
-ghost use Rattle.ticket.specs.Ticket.{whiteLine, factorLines, cLine, tolLine, spaceLine, refLine, testLine};
-ghost use Rattle.ticket.specs.Ticket.{ticketOf};
+ghost use Rattle.ticket.specs.Ticket.{white_line, factor_lines, c_line, tol_line, space_line, ref_line, test_line};
+ghost use Rattle.ticket.specs.Ticket.{ticket_of};
 ghost use Rattle.ticket.specs.Ticket.Laws.{value_of};
 
 use crate::value::{
@@ -47,7 +47,7 @@ fn value<'a>(s: &'a [u8], key: &[u8]) -> &'a [u8]
 
 fn test_line(s: &[u8], n: u32, settings: Settings, space: Space, reference: Written) -> Parsed
     requires { n ≤ 8 }
-    ensures { result ≡ testLine n settings space reference s.now }
+    ensures { result ≡ test_line n settings space reference s.now }
 {
     match reading_of(value(s, b"test="), space) {
         ReadingRead::Nothing => Parsed::Wrong(n),
@@ -68,7 +68,7 @@ fn test_line(s: &[u8], n: u32, settings: Settings, space: Space, reference: Writ
 
 fn ref_line(s: &[u8], n: u32, settings: Settings, space: Space) -> Parsed
     requires { n ≤ 7 }
-    ensures { result ≡ refLine n settings space s.now }
+    ensures { result ≡ ref_line n settings space s.now }
 {
     match reading_of(value(s, b"ref="), space) {
         ReadingRead::Nothing => Parsed::Wrong(n),
@@ -81,7 +81,7 @@ fn ref_line(s: &[u8], n: u32, settings: Settings, space: Space) -> Parsed
 
 fn space_line(s: &[u8], n: u32, settings: Settings) -> Parsed
     requires { n ≤ 6 }
-    ensures { result ≡ spaceLine n settings s.now }
+    ensures { result ≡ space_line n settings s.now }
 {
     match space_named(value(s, b"space=")) {
         SpaceRead::Nothing => Parsed::Wrong(n),
@@ -94,7 +94,7 @@ fn space_line(s: &[u8], n: u32, settings: Settings) -> Parsed
 
 fn tol_line(s: &[u8], n: u32, mut settings: Settings) -> Parsed
     requires { n ≤ 5 }
-    ensures { result ≡ tolLine n settings s.now }
+    ensures { result ≡ tol_line n settings s.now }
 {
     match thousandths(value(s, b"tol=")) {
         NumberRead::Nothing => Parsed::Wrong(n),
@@ -108,7 +108,7 @@ fn tol_line(s: &[u8], n: u32, mut settings: Settings) -> Parsed
 
 fn c_line(s: &[u8], n: u32, mut settings: Settings) -> Parsed
     requires { n ≤ 4 }
-    ensures { result ≡ cLine n settings s.now }
+    ensures { result ≡ c_line n settings s.now }
 {
     match thousandths(value(s, b"c=")) {
         NumberRead::Nothing => Parsed::Wrong(n),
@@ -123,7 +123,7 @@ fn c_line(s: &[u8], n: u32, mut settings: Settings) -> Parsed
 // A line tol= here says that l and c are missing.
 fn factor_lines(s: &[u8], n: u32, mut settings: Settings) -> Parsed
     requires { n ≤ 3 }
-    ensures { result ≡ factorLines n settings s.now }
+    ensures { result ≡ factor_lines n settings s.now }
 {
     if starts(s, b"tol=") {
         return tol_line(s, n, settings);
@@ -145,7 +145,7 @@ const MISSING_C: u64 = 1000;
 
 fn white_line(s: &[u8], n: u32, formula: Formula) -> Parsed
     requires { n ≤ 2 }
-    ensures { result ≡ whiteLine n formula s.now }
+    ensures { result ≡ white_line n formula s.now }
 {
     match white_named(value(s, b"white=")) {
         WhiteRead::Nothing => Parsed::Wrong(n),
@@ -166,7 +166,7 @@ fn white_line(s: &[u8], n: u32, formula: Formula) -> Parsed
 
 // The ticket, or the number of the first wrong line.
 pub fn parse(text: &[u8]) -> Parsed
-    ensures { result ≡ ticketOf text.now }
+    ensures { result ≡ ticket_of text.now }
 {
     if 4096 < text.len() {
         return Parsed::Wrong(0);

@@ -1,8 +1,8 @@
 // What a line's value says: a name, or a reading of three numbers.
 ghost use Rattle.std.specs.Prelude.{◌≡◌};
-ghost use Rattle.ticket.specs.Ticket.{formulaNamed, whiteNamed, spaceNamed, inSpace, three, reading_of};
-ghost use Rattle.text.specs.Number.Laws.{signedIn};
-ghost use Rattle.ticket.specs.Ticket.Laws.{formulaIn, whiteIn, spaceIn, readingIn};
+ghost use Rattle.ticket.specs.Ticket.{formula_named, white_named, space_named, in_space, three, reading_of};
+ghost use Rattle.text.specs.Number.Laws.{signed_in};
+ghost use Rattle.ticket.specs.Ticket.Laws.{formula_in, white_in, space_in, reading_in};
 
 use colour::placed::Written;
 use colour::white::White;
@@ -44,7 +44,7 @@ pub enum ReadingRead {
 }
 
 pub(crate) fn formula_named(s: &[u8]) -> FormulaRead
-    ensures { formulaIn result ≡ formulaNamed s.now }
+    ensures { formula_in result ≡ formula_named s.now }
 {
     if same(s, b"CIELAB") {
         return FormulaRead::Is(Formula::CIELAB);
@@ -59,7 +59,7 @@ pub(crate) fn formula_named(s: &[u8]) -> FormulaRead
 }
 
 pub(crate) fn white_named(s: &[u8]) -> WhiteRead
-    ensures { whiteIn result ≡ whiteNamed s.now }
+    ensures { white_in result ≡ white_named s.now }
 {
     if same(s, b"D65/10") {
         return WhiteRead::Is(White::D65Ten);
@@ -77,7 +77,7 @@ pub(crate) fn white_named(s: &[u8]) -> WhiteRead
 }
 
 pub(crate) fn space_named(s: &[u8]) -> SpaceRead
-    ensures { spaceIn result ≡ spaceNamed s.now }
+    ensures { space_in result ≡ space_named s.now }
 {
     if same(s, b"XYZ") {
         return SpaceRead::Is(Space::Xyz);
@@ -89,7 +89,7 @@ pub(crate) fn space_named(s: &[u8]) -> SpaceRead
 }
 
 fn in_space(space: Space, x: Decimal, y: Decimal, z: Decimal) -> Written
-    ensures { result ≡ inSpace space x y z }
+    ensures { result ≡ in_space space x y z }
 {
     match space {
         Space::Xyz => Written::Xyz(x, y, z),
@@ -99,7 +99,7 @@ fn in_space(space: Space, x: Decimal, y: Decimal, z: Decimal) -> Written
 
 // Three numbers are a reading of the space.
 fn together(space: Space, p: SignedRead, q: SignedRead, r: SignedRead) -> ReadingRead
-    ensures { readingIn result ≡ three (inSpace space) (signedIn p) (signedIn q) (signedIn r) }
+    ensures { reading_in result ≡ three (in_space space) (signed_in p) (signed_in q) (signed_in r) }
 {
     match p {
         SignedRead::Nothing => ReadingRead::Nothing,
@@ -115,7 +115,7 @@ fn together(space: Space, p: SignedRead, q: SignedRead, r: SignedRead) -> Readin
 
 // Three numbers, one space between.
 pub(crate) fn reading_of(s: &[u8], space: Space) -> ReadingRead
-    ensures { readingIn result ≡ reading_of space s.now }
+    ensures { reading_in result ≡ reading_of space s.now }
 {
     let t = part_after(s, 32);
     let x = signed(part_before(s, 32));

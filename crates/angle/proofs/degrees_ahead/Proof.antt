@@ -10,5 +10,5 @@ table : tie.Need-search-requires
 unfolding cosines sines
 table c κs = (record { sine = refl; cosine = refl }, c.before.before.requires)
 
-pub degrees-ahead-spec : {M : Type 1} → statement M
-degrees-ahead-spec = tie.close (tie.spec (λ c. search rules) (λ c. search rules) table (λ c. search rules))
+pub degrees_ahead_spec : {M : Type 1} → statement M
+degrees_ahead_spec = tie.close (tie.spec (λ c. search rules) (λ c. search rules) table (λ c. search rules))

@@ -21,23 +21,23 @@ module _ (c : tie.Start) where
   abbrev k : ℕ
   k = c.args.k
 
-  sine-is : get_or c.args.sine.now k 0 ≡ sine k
-  sine-is = ap (λ (l : List ℕ). get_or l k 0) c.requires.0.sine
+  sine_is : get_or c.args.sine.now k 0 ≡ sine k
+  sine_is = ap (λ (l : List ℕ). get_or l k 0) c.requires.0.sine
 
-  cosine-is : get_or c.args.cosine.now k 0 ≡ cosine k
-  cosine-is = ap (λ (l : List ℕ). get_or l k 0) c.requires.0.cosine
+  cosine_is : get_or c.args.cosine.now k 0 ≡ cosine k
+  cosine_is = ap (λ (l : List ℕ). get_or l k 0) c.requires.0.cosine
 
   sine-short : get_or c.args.sine.now k 0 < 2 ^ 27
-  sine-short = rw sine-is (sine-lt k c.requires.1.degree)
+  sine-short = rw sine_is (sine-lt k c.requires.1.degree)
 
   cosine-short : get_or c.args.cosine.now k 0 < 2 ^ 27
-  cosine-short = rw cosine-is (cosine-lt k c.requires.1.degree)
+  cosine-short = rw cosine_is (cosine-lt k c.requires.1.degree)
 
-  sine-in : k < length c.args.sine.now
-  sine-in = omega (arith, c.requires.1.degree, ap length c.requires.0.sine, sines-length)
+  sine_in : k < length c.args.sine.now
+  sine_in = omega (arith, c.requires.1.degree, ap length c.requires.0.sine, sines-length)
 
-  cosine-in : k < length c.args.cosine.now
-  cosine-in = omega (arith, c.requires.1.degree, ap length c.requires.0.cosine, cosines-length)
+  cosine_in : k < length c.args.cosine.now
+  cosine_in = omega (arith, c.requires.1.degree, ap length c.requires.0.cosine, cosines-length)
 
 sine-product : tie.Need-overflow-mul-result-2
 sine-product c =
@@ -50,18 +50,18 @@ cosine-product c =
     record { fits = product_lt _ s.args.y (cosine-short s) s.requires.1.colour.beyond }
 
 compared : tie.Need-returns
-compared c = let s = c.before.before in rw (sine-is s, cosine-is s)
+compared c = let s = c.before.before in rw (sine_is s, cosine_is s)
 
-pub has-reached-spec : {M : Type 1} → statement M
-has-reached-spec =
+pub has_reached_spec : {M : Type 1} → statement M
+has_reached_spec =
     tie.close
     (tie.spec
     (λ c. search rules)
-    (λ c. sine-in c.before)
+    (λ c. sine_in c.before)
     (λ c. record { fits = omega (arith, sine-short c.before) })
     sine-product
     (λ c. search rules)
-    (λ c. cosine-in c.before.before)
+    (λ c. cosine_in c.before.before)
     (λ c. record { fits = omega (arith, cosine-short c.before.before) })
     cosine-product
     compared)

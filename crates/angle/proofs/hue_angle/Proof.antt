@@ -7,9 +7,9 @@ use borrow.Author.Rules.{rules}
 use lib.IntN.{ℤ}
 use mir.Facts.{to_z-of_z}
 use Rattle.rounding.specs.Signed.{∣◌∣}
-use Rattle.rounding.specs.Signed.Laws.{zero-of-abs}
-use Rattle.angle.specs.Angle.{quadrant, hueAngle, degreesAhead}
-use Rattle.angle.specs.Angle.Laws.{HasHue, degrees-lt, angle-along-a, angle-along-b, neutral-angle}
+use Rattle.rounding.specs.Signed.Laws.{zero_of_abs}
+use Rattle.angle.specs.Angle.{quadrant, hue_angle, degrees_ahead}
+use Rattle.angle.specs.Angle.Laws.{HasHue, degrees-lt, angle_along_a, angle_along_b, neutral_angle}
 use Rattle.angle.specs.Angle.Quadrants.{quadrant-lt}
 use Rattle.angle.proofs.hue_angle.Statement.{statement}
 use Rattle.angle.proofs.hue_angle.Tie as tie
@@ -23,24 +23,24 @@ module _ (c : tie.After-magnitude2) where
   abbrev b : ℤ
   b = c.before.before.args.b
 
-  x-is : c.before.magnitude.result ≡ ∣ a ∣
-  x-is = rw (to_z-of_z c.before.before.ranges.a) at c.before.magnitude.ensures
+  x_is : c.before.magnitude.result ≡ ∣ a ∣
+  x_is = rw (to_z-of_z c.before.before.ranges.a) at c.before.magnitude.ensures
 
-  y-is : c.magnitude2.result ≡ ∣ b ∣
-  y-is = rw (to_z-of_z c.before.before.ranges.b) at c.magnitude2.ensures
+  y_is : c.magnitude2.result ≡ ∣ b ∣
+  y_is = rw (to_z-of_z c.before.before.ranges.b) at c.magnitude2.ensures
 
-  x-le : c.before.magnitude.result ≤ 256 * 2 ^ 20
-  x-le = rw x-is c.before.before.requires.a-range
+  x_le : c.before.magnitude.result ≤ 256 * 2 ^ 20
+  x_le = rw x_is c.before.before.requires.a_range
 
-  y-le : c.magnitude2.result ≤ 256 * 2 ^ 20
-  y-le = rw y-is c.before.before.requires.b-range
+  y_le : c.magnitude2.result ≤ 256 * 2 ^ 20
+  y_le = rw y_is c.before.before.requires.b_range
 
 neutral : tie.Need-returns
 neutral c =
     let m = c.before in
-    let a-none : ∣ a m ∣ ≡ 0 = omega (arith, x-is m, c.if1.true) in
-    let b-none : ∣ b m ∣ ≡ 0 = omega (arith, y-is m, c.if1.true) in
-    sym (ap₂ hueAngle (zero-of-abs (a m) a-none) (zero-of-abs (b m) b-none) ∙ neutral-angle)
+    let a-none : ∣ a m ∣ ≡ 0 = omega (arith, x_is m, c.if1.true) in
+    let b-none : ∣ b m ∣ ≡ 0 = omega (arith, y_is m, c.if1.true) in
+    sym (ap₂ hue_angle (zero_of_abs (a m) a-none) (zero_of_abs (b m) b-none) ∙ neutral_angle)
 
 -- ---- a quadrant, and the degrees in it
 
@@ -48,52 +48,52 @@ module _ (c : tie.After-quadrant-of) where
   abbrev m : tie.After-magnitude2
   m = c.before.before
 
-  q-is : c.quadrant-of.result ≡ quadrant (a m) (b m)
-  q-is = simp (to_z-of_z, m.before.before.fits.a, m.before.before.fits.b) at c.quadrant-of.ensures
+  q_is : c.quadrant-of.result ≡ quadrant (a m) (b m)
+  q_is = simp (to_z-of_z, m.before.before.fits.a, m.before.before.fits.b) at c.quadrant-of.ensures
 
-  q-lt : c.quadrant-of.result < 4
-  q-lt = rw q-is (quadrant-lt (a m) (b m))
+  q_lt : c.quadrant-of.result < 4
+  q_lt = rw q_is (quadrant-lt (a m) (b m))
 
   some : HasHue (a m) (b m)
   some e f =
       let x-none : ∣ a m ∣ ≡ 0 = ap (λ (z : ℤ). ∣ z ∣) e in
       let y-none : ∣ b m ∣ ≡ 0 = ap (λ (z : ℤ). ∣ z ∣) f in
-      omega (arith, x-is m, y-is m, c.before.if1.false)
+      omega (arith, x_is m, y_is m, c.before.if1.false)
 
 -- q quarter turns and the degrees ahead
 together :
-    {q k r x y u v : ℕ} → q ≡ r → k ≡ degreesAhead x y → x ≡ u → y ≡ v → 90 * q + k ≡ 90 * r + degreesAhead u v
+    {q k r x y u v : ℕ} → q ≡ r → k ≡ degrees_ahead x y → x ≡ u → y ≡ v → 90 * q + k ≡ 90 * r + degrees_ahead u v
 together e f g h = rw (e, f, g, h)
 
-at-most : (x y : ℕ) {q k : ℕ} → q < 4 → k ≡ degreesAhead x y → 90 * q + k < 2 ^ 32
-at-most x y h e = omega (arith, degrees-lt x y)
+at_most_lem : (x y : ℕ) {q k : ℕ} → q < 4 → k ≡ degrees_ahead x y → 90 * q + k < 2 ^ 32
+at_most_lem x y h e = omega (arith, degrees-lt x y)
 
-along-a : tie.Need-returns-2
-along-a c =
+along_a : tie.Need-returns-2
+along_a c =
     let q = c.before.before in
-    together (q-is q) c.degrees-ahead.ensures (x-is (m q)) (y-is (m q))
-    ∙ sym (angle-along-a (a (m q)) (b (m q)) (some q) (rw (q-is q) at c.before.if2.true))
+    together (q_is q) c.degrees-ahead.ensures (x_is (m q)) (y_is (m q))
+    ∙ sym (angle_along_a (a (m q)) (b (m q)) (some q) (rw (q_is q) at c.before.if2.true))
 
-along-b : tie.Need-returns-3
-along-b c =
+along_b : tie.Need-returns-3
+along_b c =
     let q = c.before.before in
-    together (q-is q) c.degrees-ahead2.ensures (y-is (m q)) (x-is (m q))
-    ∙ sym (angle-along-b (a (m q)) (b (m q)) (some q) (rw (q-is q) at c.before.if2.false))
+    together (q_is q) c.degrees-ahead2.ensures (y_is (m q)) (x_is (m q))
+    ∙ sym (angle_along_b (a (m q)) (b (m q)) (some q) (rw (q_is q) at c.before.if2.false))
 
-pub hue-angle-spec : {M : Type 1} → statement M
-hue-angle-spec =
+pub hue_angle_spec : {M : Type 1} → statement M
+hue_angle_spec =
     tie.close
     (tie.spec
     (λ c κs. search rules)
     (λ c κs. search rules)
-    (λ c. omega (arith, x-le c, y-le c))
+    (λ c. omega (arith, x_le c, y_le c))
     neutral
     (λ c κs. search rules)
-    (λ c. omega (arith, q-lt c.before))
-    (λ c κs. record { along = x-le (m c.before); beyond = y-le (m c.before) })
-    (λ c. record { fits = at-most _ _ (q-lt c.before.before) c.degrees-ahead.ensures })
-    along-a
-    (λ c. omega (arith, q-lt c.before))
-    (λ c κs. record { along = y-le (m c.before); beyond = x-le (m c.before) })
-    (λ c. record { fits = at-most _ _ (q-lt c.before.before) c.degrees-ahead2.ensures })
-    along-b)
+    (λ c. omega (arith, q_lt c.before))
+    (λ c κs. record { along = x_le (m c.before); beyond = y_le (m c.before) })
+    (λ c. record { fits = at_most_lem _ _ (q_lt c.before.before) c.degrees-ahead.ensures })
+    along_a
+    (λ c. omega (arith, q_lt c.before))
+    (λ c κs. record { along = y_le (m c.before); beyond = x_le (m c.before) })
+    (λ c. record { fits = at_most_lem _ _ (q_lt c.before.before) c.degrees-ahead2.ensures })
+    along_b)

@@ -6,8 +6,8 @@ use native.Mathlib.Omega.{arith}
 use native.Mathlib.Nat.{le_antisymm}
 use lib.Dec.{lit<}
 use lib.Pow.{pow_mono, pow-add, shl_exact}
-use Rattle.angle.specs.Angle.{degreesAhead}
-use Rattle.angle.specs.Angle.Laws.{degrees-lt, reached-upto, not-reached}
+use Rattle.angle.specs.Angle.{degrees_ahead}
+use Rattle.angle.specs.Angle.Laws.{degrees-lt, reached-upto, not_reached}
 use Rattle.angle.proofs.search.Statement.{statement}
 use Rattle.angle.proofs.search.Tie as tie
 
@@ -21,20 +21,20 @@ record Narrowed (all degrees left : ℕ) : Type 0 where
 step_is : (left : ℕ) → left ≤ 7 → 1 * 2 ^ (left - 1) % 2 ^ 32 ≡ 2 ^ (left - 1)
 step_is left h = shl_exact {a = 1} 1 (left - 1) 32 (lit< tt) (omega arith) ∙ omega arith
 
-step-le : (left : ℕ) → left ≤ 7 → 2 ^ (left - 1) ≤ 64
-step-le left h = pow_mono {j = 6} (omega arith)
+step_le : (left : ℕ) → left ≤ 7 → 2 ^ (left - 1) ≤ 64
+step_le left h = pow_mono {j = 6} (omega arith)
 
 one_more : (left : ℕ) → 0 < left → left - 1 + 1 ≡ left
 one_more left h = omega arith
 
-step-half : (left : ℕ) → 0 < left → 2 ^ left ≡ 2 ^ (left - 1) + 2 ^ (left - 1)
-step-half left h =
+step_half : (left : ℕ) → 0 < left → 2 ^ left ≡ 2 ^ (left - 1) + 2 ^ (left - 1)
+step_half left h =
     let parts : 2 ^ (left - 1 + 1) ≡ 2 ^ (left - 1) * 2 ^ 1 = pow-add 2 (left - 1) 1 in
     rw (sym (ap (λ (n : ℕ). 2 ^ n) (one_more left h))) (omega arith)
 
 module _ {all degrees left : ℕ} (more : 0 < left) (n : Narrowed all degrees left) where
   one : degrees + 2 ^ (left - 1) ≤ all → Narrowed all (degrees + 2 ^ (left - 1)) (left - 1)
-  one h = record { digits = omega (arith, n.digits); from = h; before = omega (arith, n.before, step-half left more) }
+  one h = record { digits = omega (arith, n.digits); from = h; before = omega (arith, n.before, step_half left more) }
 
   none : all < degrees + 2 ^ (left - 1) → Narrowed all degrees (left - 1)
   none h = record { digits = omega (arith, n.digits); from = n.from; before = h }
@@ -42,7 +42,7 @@ module _ {all degrees left : ℕ} (more : 0 < left) (n : Narrowed all degrees le
 -- ---- the loop
 
 abbrev Inv : tie.invariant-loop
-Inv sine cosine x y degrees₀ left₀ degrees left = Narrowed (degreesAhead x y) degrees left
+Inv sine cosine x y degrees₀ left₀ degrees left = Narrowed (degrees_ahead x y) degrees left
 
 abbrev μ : tie.decreases-loop
 μ sine cosine x y degrees₀ left₀ degrees left = left
@@ -64,13 +64,13 @@ module _ (c : tie.In-loop Inv μ) where
   abbrev left : ℕ
   left = c.before.loop.left
 
-  abbrev inv : Narrowed (degreesAhead start.args.x start.args.y) c.before.loop.degrees left
+  abbrev inv : Narrowed (degrees_ahead start.args.x start.args.y) c.before.loop.degrees left
   inv = c.before.loop.invariant
 
   step : 1 * 2 ^ (left - 1) % 2 ^ 32 ≡ 2 ^ (left - 1)
   step = step_is left inv.digits
 
-  few : degreesAhead start.args.x start.args.y < 90
+  few : degrees_ahead start.args.x start.args.y < 90
   few = degrees-lt start.args.x start.args.y
 
 reached : tie.Need-loop-preserved Inv μ
@@ -85,7 +85,7 @@ ahead c =
     let turn = c.before.before.before in
     let next = rw (step turn) at c.before.before.if1.true in
     let is = rw (step turn) at c.before.has-reached.ensures in
-    none turn.loop-test.true (inv turn) (not-reached _ _ _ next (sym is ∙ c.if2.false))
+    none turn.loop-test.true (inv turn) (not_reached _ _ _ next (sym is ∙ c.if2.false))
 
 beyond : tie.Need-loop-preserved-3 Inv μ
 beyond c =
@@ -95,7 +95,7 @@ beyond c =
 
 next_fits : tie.Need-overflow-add-next Inv μ
 next_fits c = record {
-  fits = rw (step c) (omega (arith, step-le (left c) (inv c).digits, (inv c).from, few c));
+  fits = rw (step c) (omega (arith, step_le (left c) (inv c).digits, (inv c).from, few c));
 }
 
 near : tie.Need-has-reached-requires Inv μ
@@ -110,8 +110,8 @@ returns c =
     let last : 2 ^ c.before.loop.left ≡ 1 = rw none_left refl in
     le_antisymm inv.from (omega (arith, inv.before))
 
-pub search-spec : {M : Type 1} → statement M
-search-spec =
+pub search_spec : {M : Type 1} → statement M
+search_spec =
     tie.close
     (tie.spec
     Inv

@@ -45,13 +45,13 @@ module _ (p : ℕ → Bool) where
   one_more n true e g = passing n e
   one_more n false e g = failing n e g
 
-  pub is-greatest : (n : ℕ) → IsGreatest p n (greatest p n)
-  is-greatest zero = none
-  is-greatest (suc n) = one_more n (p n) refl (is-greatest n)
+  pub is_greatest : (n : ℕ) → IsGreatest p n (greatest p n)
+  is_greatest zero = none
+  is_greatest (suc n) = one_more n (p n) refl (is_greatest n)
 
   -- it is g, if g passes and nothing above g does
-  pub greatest-is :
+  pub greatest_is :
       (n g : ℕ) → g < n → p g ≡ true → ((j : ℕ) → j < n → p j ≡ true → j ≤ g) → greatest p n ≡ g
-  greatest-is n g h e most =
-      let found = is-greatest n in
+  greatest_is n g h e most =
+      let found = is_greatest n in
       le_antisymm (most (greatest p n) (omega (arith, found.low)) (found.passes g h e)) (found.most g h e)

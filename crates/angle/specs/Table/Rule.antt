@@ -15,11 +15,11 @@ both : (p q : Bool) → (p && q) ≡ true → (p ≡ true) × (q ≡ true)
 both true q e = (refl, e)
 both false q e = absurd (false≢true e)
 
-every-at : (p : ℕ → Bool) (n : ℕ) → every p n ≡ true → (k : ℕ) → k < n → p k ≡ true
-every-at p zero e k h = absurd (not-suc-le-zero h)
-every-at p (suc n) e k h =
+every_at : (p : ℕ → Bool) (n : ℕ) → every p n ≡ true → (k : ℕ) → k < n → p k ≡ true
+every_at p zero e k h = absurd (not-suc-le-zero h)
+every_at p (suc n) e k h =
     let parts = both (p n) (every p n) e in
-    ⊎_elim (λ (same : k ≡ n). ap p same ∙ parts.0) (λ (less : k < n). every-at p n parts.1 k less)
+    ⊎_elim (λ (same : k ≡ n). ap p same ∙ parts.0) (λ (less : k < n). every_at p n parts.1 k less)
     (eq-or-lt_of_le (le_of_suc-le-suc h))
 
 -- ---- one test, of an entry and the one before it
@@ -42,22 +42,22 @@ all_right = refl
 -- ---- THE RULE
 
 pub record TableRule : Type 0 where
-  pub sine-rises : (k : ℕ) → k < 90 → sine k < sine (suc k)
-  pub cosine-falls : (k : ℕ) → k < 90 → cosine (suc k) < cosine k
+  pub sine_rises : (k : ℕ) → k < 90 → sine k < sine (suc k)
+  pub cosine_falls : (k : ℕ) → k < 90 → cosine (suc k) < cosine k
   pub squares-most : (k : ℕ) → k ≤ 90 → cosine k * cosine k + sine k * sine k ≤ 10 ^ 16 + 3 * 10 ^ 8
   pub squares-least : (k : ℕ) → k ≤ 90 → 10 ^ 16 ≤ cosine k * cosine k + sine k * sine k + 3 * 10 ^ 8
 
 module _ (k : ℕ) where
-  onward-at : k < 90 → (ltb (sine k) (sine (suc k)) ≡ true) × (ltb (cosine (suc k)) (cosine k) ≡ true)
-  onward-at h = both _ _ (both (onward (suc k)) _ (every-at right 91 all_right (suc k) (omega arith))).0
+  onward_at : k < 90 → (ltb (sine k) (sine (suc k)) ≡ true) × (ltb (cosine (suc k)) (cosine k) ≡ true)
+  onward_at h = both _ _ (both (onward (suc k)) _ (every_at right 91 all_right (suc k) (omega arith))).0
 
   one_at : k ≤ 90 → (leb (squares k) (10 ^ 16 + 3 * 10 ^ 8) ≡ true) × (leb (10 ^ 16) (squares k + 3 * 10 ^ 8) ≡ true)
-  one_at h = both _ _ (both (onward k) _ (every-at right 91 all_right k (omega arith))).1
+  one_at h = both _ _ (both (onward k) _ (every_at right 91 all_right k (omega arith))).1
 
 pub table-rule : TableRule
 table-rule = record {
-  sine-rises = λ k h. ltb-true _ _ (onward-at k h).0;
-  cosine-falls = λ k h. ltb-true _ _ (onward-at k h).1;
+  sine_rises = λ k h. ltb-true _ _ (onward_at k h).0;
+  cosine_falls = λ k h. ltb-true _ _ (onward_at k h).1;
   squares-most = λ k h. leb-true _ _ (one_at k h).0;
   squares-least = λ k h. leb-true _ _ (one_at k h).1;
 }
@@ -68,15 +68,15 @@ pub sine-le : (j k : ℕ) → j ≤ k → k ≤ 90 → sine j ≤ sine k
 sine-le j zero h g = le_of_eq (ap sine (omega arith))
 sine-le j (suc k) h g =
     ⊎_elim (λ (same : j ≡ suc k). le_of_eq (ap sine same))
-    (λ (less : j < suc k). omega (arith, sine-le j k (le_of_suc-le-suc less) (omega arith), table-rule.sine-rises k g))
+    (λ (less : j < suc k). omega (arith, sine-le j k (le_of_suc-le-suc less) (omega arith), table-rule.sine_rises k g))
     (eq-or-lt_of_le h)
 
-pub cosine-ge : (j k : ℕ) → j ≤ k → k ≤ 90 → cosine k ≤ cosine j
-cosine-ge j zero h g = le_of_eq (ap cosine (omega arith))
-cosine-ge j (suc k) h g =
+pub cosine_ge : (j k : ℕ) → j ≤ k → k ≤ 90 → cosine k ≤ cosine j
+cosine_ge j zero h g = le_of_eq (ap cosine (omega arith))
+cosine_ge j (suc k) h g =
     ⊎_elim (λ (same : j ≡ suc k). le_of_eq (ap cosine (sym same)))
     (λ (less : j < suc k).
-    omega (arith, cosine-ge j k (le_of_suc-le-suc less) (omega arith), table-rule.cosine-falls k g))
+    omega (arith, cosine_ge j k (le_of_suc-le-suc less) (omega arith), table-rule.cosine_falls k g))
     (eq-or-lt_of_le h)
 
 -- ---- and every entry has 27 binary digits at most: a square of a longer number would pass the sum

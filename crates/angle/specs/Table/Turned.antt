@@ -42,10 +42,10 @@ pub record TurnedTable : Type 0 where
   -- the step's length is 1 within 10 ^ -24
   pub length : within (10 ^ 24) (degree.x * degree.x + degree.y * degree.y) (10 ^ 48) ≡ true
   -- eighty-nine steps come to its parts exchanged, within 10 ^ -22
-  pub quarter-x : within 100 (steps 89).x degree.y ≡ true
-  pub quarter-y : within 100 (steps 89).y degree.x ≡ true
+  pub quarter_x : within 100 (steps 89).x degree.y ≡ true
+  pub quarter_y : within 100 (steps 89).y degree.x ≡ true
   pub entries : every nearest 91 ≡ true
 
 pub turned-table : TurnedTable
 unfolding cosines sines steps
-turned-table = record { length = refl; quarter-x = refl; quarter-y = refl; entries = refl }
+turned-table = record { length = refl; quarter_x = refl; quarter_y = refl; entries = refl }

@@ -3,19 +3,19 @@
 -- Assumes nothing.
 use Rattle.std.specs.Prelude.{List, ℕ}
 use Rattle.colour.specs.declared.placed.Reading.{Reading}
-use Rattle.calls.specs.Calls.{AdmitsOne, gives_one, loadCall, judgeCall, ticketCall}
+use Rattle.calls.specs.Calls.{AdmitsOne, gives_one, load_call, judge_call, ticket_call}
 
 -- of `load_call`
-pub load-call-one :
+pub load_call_one :
     (station : List ℕ) (formula white l c tolerance : ℕ) (r : Reading) →
-    AdmitsOne (loadCall station formula white l c tolerance r)
-load-call-one station formula white l c tolerance r = gives_one _
+    AdmitsOne (load_call station formula white l c tolerance r)
+load_call_one station formula white l c tolerance r = gives_one _
 
 -- of `judge_call`
-pub judge-call-one :
-    (station : List ℕ) (r : Reading) (room : List ℕ) (column : ℕ) → AdmitsOne (judgeCall station r room column)
-judge-call-one station r room column = gives_one _
+pub judge_call_one :
+    (station : List ℕ) (r : Reading) (room : List ℕ) (column : ℕ) → AdmitsOne (judge_call station r room column)
+judge_call_one station r room column = gives_one _
 
 -- of `ticket_call`
-pub ticket-call-one : (text room : List ℕ) (column : ℕ) → AdmitsOne (ticketCall text room column)
-ticket-call-one text room column = gives_one _
+pub ticket_call_one : (text room : List ℕ) (column : ℕ) → AdmitsOne (ticket_call text room column)
+ticket_call_one text room column = gives_one _

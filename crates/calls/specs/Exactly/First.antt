@@ -29,15 +29,15 @@ pub data Same : List Rule → List Rule → Type 1 where
   none : Same [] []
   more : {n : ℕ} {A B : Type 0} {rs ss : List Rule} → A ↔ B → Same rs ss → Same (rule n A ∷ rs) (rule n B ∷ ss)
 
-pub first-same : {rs ss : List Rule} {n : ℕ} → Same rs ss → First rs n → First ss n
-first-same Same.none First.none = First.none
-first-same (more e s) (here h) = here (e.0 h)
-first-same (more e s) (later h f) = later (λ b. h (e.1 b)) (first-same s f)
+pub first_same : {rs ss : List Rule} {n : ℕ} → Same rs ss → First rs n → First ss n
+first_same Same.none First.none = First.none
+first_same (more e s) (here h) = here (e.0 h)
+first_same (more e s) (later h f) = later (λ b. h (e.1 b)) (first_same s f)
 
 -- no rule has the number 0
-abbrev pub allNumbered : List Rule → Bool
-allNumbered [] = true
-allNumbered (r ∷ rs) = not (eqb r.number 0) && allNumbered rs
+abbrev pub all_numbered : List Rule → Bool
+all_numbered [] = true
+all_numbered (r ∷ rs) = not (eqb r.number 0) && all_numbered rs
 
 pub numbered : (n : ℕ) (b : Bool) → not (eqb n 0) && b ≡ true → ¬ (n ≡ 0) × (b ≡ true)
 numbered n b = go (eqb n 0) refl b
@@ -47,8 +47,8 @@ numbered n b = go (eqb n 0) refl b
     go false e q h = (eqb-false n 0 e, h)
 
 pub first_then :
-    {rs bs : List Rule} {n m : ℕ} → allNumbered rs ≡ true → First rs n → First bs m → First (rs ++ bs) (first n m)
+    {rs bs : List Rule} {n m : ℕ} → all_numbered rs ≡ true → First rs n → First bs m → First (rs ++ bs) (first n m)
 first_then some First.none g = g
 first_then {bs = bs} {m = m} some (here {r} {rs} h) g =
-    subst (First ((r ∷ rs) ++ bs)) (sym (first_some m (numbered r.number (allNumbered rs) some).0)) (here h)
-first_then some (later {r} {rs} h f) g = later h (first_then (numbered r.number (allNumbered rs) some).1 f g)
+    subst (First ((r ∷ rs) ++ bs)) (sym (first_some m (numbered r.number (all_numbered rs) some).0)) (here h)
+first_then some (later {r} {rs} h f) g = later h (first_then (numbered r.number (all_numbered rs) some).1 f g)

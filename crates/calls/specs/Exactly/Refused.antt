@@ -5,7 +5,7 @@ use Rattle.std.proofs.Common.{ap, ◌∙◌, ne_eqb}
 use Rattle.colour.specs.declared.placed.Reading.{Reading}
 use Rattle.standard.specs.Acceptance as Acceptance
 use Rattle.standard.specs.Judgement.{number_of}
-use Rattle.standard.specs.Figures.{noReference, referenceAnswer, noSpecimen, specimenAnswer}
+use Rattle.standard.specs.Figures.{no_reference, reference_answer, no_specimen, specimen_answer}
 use Rattle.standard.specs.declared.accept.Acceptance.{Acceptance}
 use Rattle.standard.specs.declared.accept.Acceptance.TheVariants as A
 use Rattle.standard.specs.declared.judge.Outcome.{Outcome}
@@ -13,24 +13,24 @@ use Rattle.standard.specs.declared.judge.Outcome.TheVariants as O
 use Rattle.standard.specs.declared.figures.ReferenceAnswer.{ReferenceAnswer}
 use Rattle.standard.specs.declared.figures.SpecimenAnswer.{SpecimenAnswer}
 use Rattle.standard.specs.declared.figures.Named.TheVariants.{Nothing}
-use Rattle.calls.specs.Calls.{Answer, Gives, writing, loadCall, judgeCall, ticketCall}
-use Rattle.calls.specs.Runs.{Call, load, judge, ticket, sliceAfter}
+use Rattle.calls.specs.Calls.{Answer, Gives, writing, load_call, judge_call, ticket_call}
+use Rattle.calls.specs.Runs.{Call, load, judge, ticket, slice_after}
 
 -- ---- by value
 
 -- what holds of a load's number holds of the answer's, and with any but 0 the figures are 0.0
 pub reference-answers :
-    (Q : ℕ → Type 0) (x : Acceptance) {a : ReferenceAnswer} → a ≡ referenceAnswer x → Q (Acceptance.number_of x) →
-    Q a.number × (¬ (a.number ≡ 0) → a.figures ≡ noReference)
-unfolding referenceAnswer
+    (Q : ℕ → Type 0) (x : Acceptance) {a : ReferenceAnswer} → a ≡ reference_answer x → Q (Acceptance.number_of x) →
+    Q a.number × (¬ (a.number ≡ 0) → a.figures ≡ no_reference)
+unfolding reference_answer
 reference-answers Q (A.Refused n) e q = rw e (q, λ some. refl)
 reference-answers Q (A.Accepted s) e q = rw e (q, λ some. absurd (some refl))
 
 -- and of a judgement or a ticket, with no name
 pub specimen-answers :
-    (Q : ℕ → Type 0) (o : Outcome) {a : SpecimenAnswer} → a ≡ specimenAnswer o → Q (number_of o) →
-    Q a.number × (¬ (a.number ≡ 0) → (a.figures ≡ noSpecimen) × (a.names ≡ Nothing))
-unfolding specimenAnswer
+    (Q : ℕ → Type 0) (o : Outcome) {a : SpecimenAnswer} → a ≡ specimen_answer o → Q (number_of o) →
+    Q a.number × (¬ (a.number ≡ 0) → (a.figures ≡ no_specimen) × (a.names ≡ Nothing))
+unfolding specimen_answer
 specimen-answers Q (O.Refused n) e q = rw e (q, λ some. (refl, refl))
 specimen-answers Q (O.Judged j) e q = rw e (q, λ some. absurd (some refl))
 
@@ -41,20 +41,20 @@ written-only n written before some = ap (λ b. cond b written before) (ne_eqb n 
 
 pub load_kept :
     (xs : List ℕ) (formula white l c tolerance : ℕ) (r : Reading) →
-    ¬ ((loadCall xs formula white l c tolerance r).number ≡ 0) → (loadCall xs formula white l c tolerance r).bytes ≡ xs
-unfolding loadCall
+    ¬ ((load_call xs formula white l c tolerance r).number ≡ 0) → (load_call xs formula white l c tolerance r).bytes ≡ xs
+unfolding load_call
 load_kept xs formula white l c tolerance r some = written-only _ _ xs some
 
 pub judge-kept :
-    (xs : List ℕ) (r : Reading) (room : List ℕ) (column : ℕ) → ¬ ((judgeCall xs r room column).number ≡ 0) →
-    (judgeCall xs r room column).bytes ≡ room
-unfolding judgeCall
+    (xs : List ℕ) (r : Reading) (room : List ℕ) (column : ℕ) → ¬ ((judge_call xs r room column).number ≡ 0) →
+    (judge_call xs r room column).bytes ≡ room
+unfolding judge_call
 judge-kept xs r room column some = written-only _ _ room some
 
 pub ticket-kept :
-    (text room : List ℕ) (column : ℕ) → ¬ ((ticketCall text room column).number ≡ 0) →
-    (ticketCall text room column).bytes ≡ room
-unfolding ticketCall
+    (text room : List ℕ) (column : ℕ) → ¬ ((ticket_call text room column).number ≡ 0) →
+    (ticket_call text room column).bytes ≡ room
+unfolding ticket_call
 ticket-kept text room column some = written-only _ _ room some
 
 -- the same of whatever number and bytes a contract admits
@@ -65,14 +65,14 @@ given-kept Q g q kept = (rw g.number q, λ some. g.bytes ∙ kept (λ z. some (g
 
 -- ---- the station's slice after one call of a run
 
-abbrev pub numberGiven : List ℕ → Call → ℕ
-numberGiven xs (load formula white l c tolerance r) = (loadCall xs formula white l c tolerance r).number
-numberGiven xs (judge r room column) = (judgeCall xs r room column).number
-numberGiven xs (ticket text room column) = (ticketCall text room column).number
+abbrev pub number_given : List ℕ → Call → ℕ
+number_given xs (load formula white l c tolerance r) = (load_call xs formula white l c tolerance r).number
+number_given xs (judge r room column) = (judge_call xs r room column).number
+number_given xs (ticket text room column) = (ticket_call text room column).number
 
 -- only a load that answers 0 changes it
-pub station-kept : (xs : List ℕ) (call : Call) → ¬ (numberGiven xs call ≡ 0) → sliceAfter xs (call ∷ []) ≡ xs
-unfolding sliceAfter
+pub station-kept : (xs : List ℕ) (call : Call) → ¬ (number_given xs call ≡ 0) → slice_after xs (call ∷ []) ≡ xs
+unfolding slice_after
 station-kept xs (load formula white l c tolerance r) some = load_kept xs formula white l c tolerance r some
 station-kept xs (judge r room column) some = refl
 station-kept xs (ticket text room column) some = refl

@@ -3,7 +3,7 @@ use Rattle.std.specs.Prelude.{◌≡◌, refl, Bool, true, false, cond, List, []
 use Rattle.std.proofs.Common.{sym, ◌∙◌, true≢false, inl, inr, eqb-true, eq-eqb}
 use Rattle.std.proofs.lemmas.Bool.{eqb-false}
 use Rattle.standard.specs.Refusals.{first}
-use Rattle.calls.specs.Exactly.First.{NoneOf, Rule, rule, First, here, later, allNumbered, numbered}
+use Rattle.calls.specs.Exactly.First.{NoneOf, Rule, rule, First, here, later, all_numbered, numbered}
 
 -- A, with none of the earlier ones
 abbrev pub Given : Type 0 → (earlier : List (Type 0)) → Type 0
@@ -37,15 +37,15 @@ pub none_more : (A : Type 0) (Es : List (Type 0)) → NoneOf Es → ¬ A → Non
 none_more A [] h f = (f, tt)
 none_more A (E ∷ Es) h f = (h.0, none_more A Es h.1 f)
 
-pub none-split : (A : Type 0) (Es : List (Type 0)) → NoneOf (Es ++ (A ∷ [])) → NoneOf Es × ¬ A
-none-split A [] h = (tt, h.0)
-none-split A (E ∷ Es) h = let (g, f) = none-split A Es h.1 in ((h.0, g), f)
+pub none_split : (A : Type 0) (Es : List (Type 0)) → NoneOf (Es ++ (A ∷ [])) → NoneOf Es × ¬ A
+none_split A [] h = (tt, h.0)
+none_split A (E ∷ Es) h = let (g, f) = none_split A Es h.1 in ((h.0, g), f)
 
 -- a list with A in front where b says so
-in-front : {b : Bool} (A : Type 0) (As : List (Type 0)) → b ≡ true → A → AnyOf (listed b A As)
-in-front {b = false} A As e a = absurd (true≢false (sym e))
-in-front {b = true} A [] e a = a
-in-front {b = true} A (B ∷ Bs) e a = inl a
+in_front : {b : Bool} (A : Type 0) (As : List (Type 0)) → b ≡ true → A → AnyOf (listed b A As)
+in_front {b = false} A As e a = absurd (true≢false (sym e))
+in_front {b = true} A [] e a = a
+in_front {b = true} A (B ∷ Bs) e a = inl a
 
 in_rest : (b : Bool) (A : Type 0) (As : List (Type 0)) → AnyOf As → AnyOf (listed b A As)
 in_rest false A As h = h
@@ -67,7 +67,7 @@ rows_none k Es (r ∷ rs) h = go (rows_none k (Es ++ (r.holds ∷ [])) rs) (in_e
         (AnyOf (rows_of k (Es ++ (r.holds ∷ [])) rs) → NoneOf (Es ++ (r.holds ∷ []))) →
         ((eqb k r.number ≡ true) × Given r.holds Es) ⊎ AnyOf (rows_of k (Es ++ (r.holds ∷ [])) rs) → NoneOf Es
     go rest (inl g) = (given_both r.holds Es g.1).1
-    go rest (inr g) = (none-split r.holds Es (rest g)).0
+    go rest (inr g) = (none_split r.holds Es (rest g)).0
 
 -- THE NUMBER IS k EXACTLY WHERE A RULE OF THAT NUMBER HOLDS AND NONE BEFORE IT DOES
 to_row :
@@ -75,7 +75,7 @@ to_row :
     AnyOf (rows_of k Es rs)
 to_row k Es some First.none h e = absurd (some (sym e))
 to_row k Es some (here {r} {rs} g) h e =
-    in-front (Given r.holds Es) (rows_of k (Es ++ (r.holds ∷ [])) rs)
+    in_front (Given r.holds Es) (rows_of k (Es ++ (r.holds ∷ [])) rs)
     (eq-eqb k r.number (sym e)) (given r.holds Es g h)
 to_row k Es some (later {r} {rs} g f) h e =
     in_rest (eqb k r.number) (Given r.holds Es) (rows_of k (Es ++ (r.holds ∷ [])) rs)
@@ -89,7 +89,7 @@ from_row k Es (here {r} {rs} g) h = go (in_either (eqb k r.number) _ _ h)
         ((eqb k r.number ≡ true) × Given r.holds Es) ⊎ AnyOf (rows_of k (Es ++ (r.holds ∷ [])) rs) →
         r.number ≡ k
     go (inl t) = sym (eqb-true k r.number t.0)
-    go (inr t) = absurd ((none-split r.holds Es (rows_none k (Es ++ (r.holds ∷ [])) rs t)).1 g)
+    go (inr t) = absurd ((none_split r.holds Es (rows_none k (Es ++ (r.holds ∷ [])) rs t)).1 g)
 from_row k Es (later {r} {rs} {n} g f) h =
     go (λ t. from_row k (Es ++ (r.holds ∷ [])) f t) (in_either (eqb k r.number) _ _ h)
   where
@@ -119,9 +119,9 @@ row_before {rs} {n} f last k some other = go (eqb n 0) refl last other (row f k 
 
 -- AND 0 EXACTLY WHERE NONE HOLDS
 pub row_zero :
-    {rs : List Rule} {n : ℕ} → allNumbered rs ≡ true → First rs n → n ≡ 0 ↔ NoneOf (map (λ (r : Rule). r.holds) rs)
+    {rs : List Rule} {n : ℕ} → all_numbered rs ≡ true → First rs n → n ≡ 0 ↔ NoneOf (map (λ (r : Rule). r.holds) rs)
 row_zero some First.none = (λ e. tt, λ h. refl)
-row_zero some (here {r} {rs} g) = (λ e. absurd ((numbered r.number (allNumbered rs) some).0 e), λ h. absurd (h.0 g))
+row_zero some (here {r} {rs} g) = (λ e. absurd ((numbered r.number (all_numbered rs) some).0 e), λ h. absurd (h.0 g))
 row_zero some (later {r} {rs} g f) =
-    let rest = row_zero (numbered r.number (allNumbered rs) some).1 f in
+    let rest = row_zero (numbered r.number (all_numbered rs) some).1 f in
     (λ e. (g, rest.0 e), λ h. rest.1 h.1)

@@ -1,21 +1,21 @@
 -- What the line of a ticket's answer says: docs/SCOPE.md 9.3, 11.2. Assumes nothing.
 use Rattle.std.specs.Prelude.{◌≡◌, refl, List, ℕ, ◌<◌, length}
 use Rattle.std.proofs.Common.{sym, ap, ◌∙◌, arith}
-use Rattle.ticket.specs.Ticket.{ticketOf}
-use Rattle.ticket.specs.Ticket.Grammar.{WrongAt, too_long, first-wrong}
-use Rattle.ticket.specs.Ticket.Grammar.Wrong.{wrong-exactly}
-use Rattle.ticket.specs.Ticket.Laws.{ticket-of-long}
+use Rattle.ticket.specs.Ticket.{ticket_of}
+use Rattle.ticket.specs.Ticket.Grammar.{WrongAt, too_long, first_wrong}
+use Rattle.ticket.specs.Ticket.Grammar.Wrong.{wrong_exactly}
+use Rattle.ticket.specs.Ticket.Laws.{ticket_of_long}
 use Rattle.ticket.specs.declared.lines.Ticket.{Ticket}
 use Rattle.ticket.specs.declared.lines.Parsed.{Parsed}
 use Rattle.ticket.specs.declared.lines.Parsed.TheVariants.{Right, Wrong}
-use Rattle.standard.specs.Refusals.Laws.{refusal-keeps}
+use Rattle.standard.specs.Refusals.Laws.{refusal_keeps}
 use Rattle.standard.specs.Judgement.{number_of}
-use Rattle.standard.specs.Figures.{specimenAnswer}
+use Rattle.standard.specs.Figures.{specimen_answer}
 use Rattle.standard.specs.declared.judge.Outcome.TheVariants.{Refused}
-use Rattle.calls.specs.Outcome.{ticketOutcome}
-use Rattle.calls.specs.Outcome.Each.{right-each}
+use Rattle.calls.specs.Outcome.{ticket_outcome}
+use Rattle.calls.specs.Outcome.Each.{right_each}
 use Rattle.calls.specs.Outcome.Ticket.{ticket-number}
-use Rattle.calls.specs.Line.{ticketAnswer}
+use Rattle.calls.specs.Line.{ticket_answer}
 use Rattle.calls.specs.Exactly.Refused.{specimen-answers}
 
 -- ---- only a wrong text gives 7
@@ -23,45 +23,45 @@ use Rattle.calls.specs.Exactly.Refused.{specimen-answers}
 abbrev NotSeven : ℕ → Type 0
 NotSeven n = n ≡ 7 → ⊥
 
-right-not-seven : (t : Ticket) → NotSeven (number_of (ticketOutcome (Right t)))
-right-not-seven t e =
-    refusal-keeps NotSeven (λ z. omega arith)
-    (right-each NotSeven (λ z. omega arith) (λ z. omega arith) (λ z. omega arith) (λ z. omega arith) (λ z. omega arith) t)
+right_not_seven : (t : Ticket) → NotSeven (number_of (ticket_outcome (Right t)))
+right_not_seven t e =
+    refusal_keeps NotSeven (λ z. omega arith)
+    (right_each NotSeven (λ z. omega arith) (λ z. omega arith) (λ z. omega arith) (λ z. omega arith) (λ z. omega arith) t)
     (sym (ticket-number (Right t)) ∙ e)
 
 -- ---- the line
 
 -- A WRONG TEXT ANSWERS 7 AND ITS LINE
 pub wrong_answer :
-    (line : ℕ) → ticketAnswer (Wrong line) ≡ record { line = line; answer = specimenAnswer (Refused 7) }
-unfolding ticketAnswer ticketOutcome
+    (line : ℕ) → ticket_answer (Wrong line) ≡ record { line = line; answer = specimen_answer (Refused 7) }
+unfolding ticket_answer ticket_outcome
 wrong_answer line = refl
 
 -- LINE IS 0 FOR ALL BUT 7
-pub line-0-but-for-7 : (p : Parsed) → ((ticketAnswer p).answer.number ≡ 7 → ⊥) → (ticketAnswer p).line ≡ 0
-unfolding ticketAnswer ticketOutcome specimenAnswer
-line-0-but-for-7 (Right t) h = refl
-line-0-but-for-7 (Wrong line) h = absurd (h refl)
+pub line_0_but_for_7 : (p : Parsed) → ((ticket_answer p).answer.number ≡ 7 → ⊥) → (ticket_answer p).line ≡ 0
+unfolding ticket_answer ticket_outcome specimen_answer
+line_0_but_for_7 (Right t) h = refl
+line_0_but_for_7 (Wrong line) h = absurd (h refl)
 
 -- WITH 7 IT IS THE PARSER'S, the first wrong line
-pub line-with-7 : (p : Parsed) → (ticketAnswer p).answer.number ≡ 7 → p ≡ Wrong (ticketAnswer p).line
-unfolding ticketAnswer
-line-with-7 (Right t) e =
-    absurd ((specimen-answers NotSeven (ticketOutcome (Right t)) refl (right-not-seven t)).0 e)
-line-with-7 (Wrong line) e = refl
+pub line_with_7 : (p : Parsed) → (ticket_answer p).answer.number ≡ 7 → p ≡ Wrong (ticket_answer p).line
+unfolding ticket_answer
+line_with_7 (Right t) e =
+    absurd ((specimen-answers NotSeven (ticket_outcome (Right t)) refl (right_not_seven t)).0 e)
+line_with_7 (Wrong line) e = refl
 
 -- ---- LINE 0 WITH 7 IS EXACTLY A TEXT OVER 4,096 BYTES
 
 module _ (text : List ℕ) where
   pub long-text :
-      4096 < length text → ticketAnswer (ticketOf text) ≡ record { line = 0; answer = specimenAnswer (Refused 7) }
-  long-text h = ap ticketAnswer (sym (ticket-of-long text h)) ∙ wrong_answer 0
+      4096 < length text → ticket_answer (ticket_of text) ≡ record { line = 0; answer = specimen_answer (Refused 7) }
+  long-text h = ap ticket_answer (sym (ticket_of_long text h)) ∙ wrong_answer 0
 
-  pub line-0-is-long :
-      (ticketAnswer (ticketOf text)).answer.number ≡ 7 → (ticketAnswer (ticketOf text)).line ≡ 0 → 4096 < length text
-  line-0-is-long seven zero =
-      at-0 ((wrong-exactly text 0).0 (line-with-7 (ticketOf text) seven ∙ ap Wrong zero))
+  pub line_0_is_long :
+      (ticket_answer (ticket_of text)).answer.number ≡ 7 → (ticket_answer (ticket_of text)).line ≡ 0 → 4096 < length text
+  line_0_is_long seven zero =
+      at_0 ((wrong_exactly text 0).0 (line_with_7 (ticket_of text) seven ∙ ap Wrong zero))
     where
-      at-0 : WrongAt 0 text → 4096 < length text
-      at-0 (too_long e h) = h
-      at-0 (first-wrong h short before not) = absurd (omega arith)
+      at_0 : WrongAt 0 text → 4096 < length text
+      at_0 (too_long e h) = h
+      at_0 (first_wrong h short before not) = absurd (omega arith)

@@ -3,13 +3,13 @@
 use Rattle.std.specs.Prelude.{◌≡◌, refl, List, ℕ}
 use Rattle.std.proofs.Common.{sym, ap, ◌∙◌, arith}
 use Rattle.colour.specs.Placed.{place}
-use Rattle.colour.specs.Placed.Laws.{place-on-grid}
+use Rattle.colour.specs.Placed.Laws.{place_on_grid}
 use Rattle.colour.specs.declared.placed.Placed.{Placed}
 use Rattle.colour.specs.declared.placed.Placed.TheVariants as P
 use Rattle.colour.specs.declared.placed.Reading.{Reading}
-use Rattle.standard.specs.Refusals.{atRoom, number_at, first_of, refusal}
-use Rattle.standard.specs.Refusals.Laws.{first-zero}
-use Rattle.standard.specs.Judgement.{judgementOf, outcome, number_of, Specimen, Judgeable}
+use Rattle.standard.specs.Refusals.{at_room, number_at, first_of, refusal}
+use Rattle.standard.specs.Refusals.Laws.{first_zero}
+use Rattle.standard.specs.Judgement.{judgement_of, outcome, number_of, Specimen, Judgeable}
 use Rattle.standard.specs.Judgement.Laws.{Says, judged-says, outcome-number}
 use Rattle.standard.specs.declared.accept.Standard.{Standard}
 use Rattle.standard.specs.declared.judge.Judgement.{Judgement}
@@ -19,52 +19,52 @@ use Rattle.station.specs.Record.{decode}
 use Rattle.station.specs.Record.Back.{decode-stands}
 use Rattle.station.specs.declared.Station.{Station}
 use Rattle.station.specs.declared.Station.TheVariants.{Empty, Holds}
-use Rattle.calls.specs.Outcome.Load.{placed-some}
-use Rattle.calls.specs.Outcome.{judgedBy, judgeFaults}
+use Rattle.calls.specs.Outcome.Load.{placed_some}
+use Rattle.calls.specs.Outcome.{judged_by, judge_faults}
 
 -- each way out
 module _ (station : Station) (r : Reading) {x : Station} (e : x ≡ station) where
-  pub judge-empty : x ≡ Empty → Refused 9 ≡ judgedBy station r
-  unfolding judgedBy
+  pub judge-empty : x ≡ Empty → Refused 9 ≡ judged_by station r
+  unfolding judged_by
   judge-empty h = rw (← e, h)
 
   pub judge-held :
       {s : Standard} {p : Placed} {o : Outcome} → x ≡ Holds s → p ≡ place s.settings.white r → o ≡ outcome s p →
-      o ≡ judgedBy station r
-  unfolding judgedBy
+      o ≡ judged_by station r
+  unfolding judged_by
   judge-held h hp ho = rw (← e, h, ho, hp)
 
 pub held-judgeable :
     (xs : List ℕ) (r : Reading) {s : Standard} {p : Placed} → decode xs ≡ Holds s → p ≡ place s.settings.white r →
     Judgeable s p
 held-judgeable xs r e hp =
-    record { standard = (decode-stands xs e).valid; test = λ c h. place-on-grid _ r c (sym hp ∙ h) }
+    record { standard = (decode-stands xs e).valid; test = λ c h. place_on_grid _ r c (sym hp ∙ h) }
 
 -- ---- its number
 
-pub judge-number : (station : Station) (r : Reading) → number_of (judgedBy station r) ≡ refusal (judgeFaults station r)
-unfolding judgedBy judgeFaults refusal number_at first_of
+pub judge-number : (station : Station) (r : Reading) → number_of (judged_by station r) ≡ refusal (judge_faults station r)
+unfolding judged_by judge_faults refusal number_at first_of
 judge-number Empty r = refl
-judge-number (Holds s) r = outcome-number s _ ∙ sym (first-zero _)
+judge-number (Holds s) r = outcome-number s _ ∙ sym (first_zero _)
 
-pub judge-room : (station : Station) (r : Reading) → number_at (judgeFaults station r) atRoom ≡ 0
-unfolding judgeFaults number_at
+pub judge-room : (station : Station) (r : Reading) → number_at (judge_faults station r) at_room ≡ 0
+unfolding judge_faults number_at
 judge-room Empty r = refl
 judge-room (Holds s) r = refl
 
 -- what refuses a test specimen has a number, where its reading's refusal has one
-pub outcome-some :
+pub outcome_some :
     (s : Standard) (p : Placed) → ((n : ℕ) → p ≡ P.Refused n → n ≡ 0 → ⊥) →
     {n : ℕ} → outcome s p ≡ Refused n → n ≡ 0 → ⊥
 unfolding outcome
-outcome-some s (P.At T) some e z = let no : ◌≡◌ {A = ℕ} 0 1 = cc in omega arith
-outcome-some s (P.Refused m) some {n} e z = let is : m ≡ n = cc in some m refl (is ∙ z)
+outcome_some s (P.At T) some e z = let no : ◌≡◌ {A = ℕ} 0 1 = cc in omega arith
+outcome_some s (P.Refused m) some {n} e z = let is : m ≡ n = cc in some m refl (is ∙ z)
 
 -- a refused judgement has a number
-pub judge-some : (station : Station) (r : Reading) {n : ℕ} → judgedBy station r ≡ Refused n → n ≡ 0 → ⊥
-unfolding judgedBy
-judge-some Empty r {n} e z = let is : ◌≡◌ {A = ℕ} 9 n = cc in omega arith
-judge-some (Holds s) r e z = outcome-some s _ (λ m h. placed-some _ r h) e z
+pub judge_some : (station : Station) (r : Reading) {n : ℕ} → judged_by station r ≡ Refused n → n ≡ 0 → ⊥
+unfolding judged_by
+judge_some Empty r {n} e z = let is : ◌≡◌ {A = ℕ} 9 n = cc in omega arith
+judge_some (Holds s) r e z = outcome_some s _ (λ m h. placed_some _ r h) e z
 
 -- ---- what is judged
 
@@ -72,7 +72,7 @@ judge-some (Holds s) r e z = outcome-some s _ (λ m h. placed-some _ r h) e z
 pub record SaidOf (xs : List ℕ) (r : Reading) (j : Judgement) : Type 0 where
   pub held : decode xs ≡ Holds j.standard
   pub read : place j.standard.settings.white r ≡ P.At j.test
-  pub is : j ≡ judgementOf j.standard j.test
+  pub is : j ≡ judgement_of j.standard j.test
   pub asked : Specimen j.standard j.test
 
 holds-said :
@@ -87,13 +87,13 @@ holds-said xs s r {j} held says =
       held = now;
       read = read;
       is = says.is;
-      asked = record { standard = (decode-stands xs now).valid; test = place-on-grid _ r j.test read };
+      asked = record { standard = (decode-stands xs now).valid; test = place_on_grid _ r j.test read };
     }
 
-pub judged-said : (xs : List ℕ) (r : Reading) {j : Judgement} → judgedBy (decode xs) r ≡ Judged j → SaidOf xs r j
-unfolding judgedBy
+pub judged-said : (xs : List ℕ) (r : Reading) {j : Judgement} → judged_by (decode xs) r ≡ Judged j → SaidOf xs r j
+unfolding judged_by
 judged-said xs r {j} = go (decode xs) refl
   where
-    go : (station : Station) → decode xs ≡ station → judgedBy station r ≡ Judged j → SaidOf xs r j
+    go : (station : Station) → decode xs ≡ station → judged_by station r ≡ Judged j → SaidOf xs r j
     go Empty e h = let no : ◌≡◌ {A = ℕ} 0 1 = cc in absurd (omega arith)
     go (Holds s) e h = holds-said xs s r e (judged-says s (place s.settings.white r) h)

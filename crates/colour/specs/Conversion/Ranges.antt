@@ -30,7 +30,7 @@ pub record Opposed (k : ℤ) (p q : ℕ) : Type 0 where
 
 -- a colour that the station accepts: L* from 0 to 120, a* and b* up to 256 in magnitude
 pub record OnGrid (c : GridColour) : Type 0 where
-  pub notBelow : minus c.L.0 ≡ false
+  pub not_below : minus c.L.0 ≡ false
   pub L : ∣ c.L.0 ∣ ≤ 120 * 2 ^ 20
   pub a : ∣ c.a.0 ∣ ≤ 256 * 2 ^ 20
   pub b : ∣ c.b.0 ∣ ≤ 256 * 2 ^ 20

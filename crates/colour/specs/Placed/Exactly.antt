@@ -5,7 +5,7 @@ use Rattle.std.specs.Prelude.{◌≡◌, ◌↔◌, ◌⊎◌, ◌*◌, ◌^◌,
 use Rattle.std.specs.Float.{nan, inf, fin}
 use Rattle.std.specs.Float.Ieee.{up, down}
 use Rattle.rounding.specs.Signed.{∣◌∣}
-use Rattle.reading.specs.Reading.{range_of, limit, floatUnits, decimalUnits}
+use Rattle.reading.specs.Reading.{range_of, limit, float_units, decimal_units}
 use Rattle.reading.specs.declared.decimal.Decimal.{Decimal}
 use Rattle.reading.specs.declared.quantity.Quantity.{Quantity}
 use Rattle.reading.specs.declared.quantity.Quantity.TheVariants.{Tristimulus, Lightness, Opponent}
@@ -19,7 +19,7 @@ use Rattle.colour.specs.declared.placed.Written.{Written}
 use Rattle.colour.specs.declared.placed.Written.TheVariants as W
 use Rattle.colour.specs.declared.placed.Placed.{Placed}
 use Rattle.colour.specs.declared.placed.Placed.TheVariants.{At, Refused}
-use Rattle.colour.specs.Placed.{converted, place, placeWritten}
+use Rattle.colour.specs.Placed.{converted, place, place_written}
 pub mod Ways
 pub mod Laws
 
@@ -68,12 +68,12 @@ pub record ComeBeyond (w : White) (x y z : Units) : Type 0 where
   pub beyond : Beyond256 (converted w X Y Z)
 
 abbrev pub Beyond : White → Reading → Type 0
-Beyond w (R.Xyz x y z) = ComeBeyond w (floatUnits Tristimulus x) (floatUnits Tristimulus y) (floatUnits Tristimulus z)
+Beyond w (R.Xyz x y z) = ComeBeyond w (float_units Tristimulus x) (float_units Tristimulus y) (float_units Tristimulus z)
 Beyond w (R.Lab l a b) = ⊥
 
 abbrev pub WrittenBeyond : White → Written → Type 0
 WrittenBeyond w (W.Xyz x y z) =
-    ComeBeyond w (decimalUnits Tristimulus x) (decimalUnits Tristimulus y) (decimalUnits Tristimulus z)
+    ComeBeyond w (decimal_units Tristimulus x) (decimal_units Tristimulus y) (decimal_units Tristimulus z)
 WrittenBeyond w (W.Lab l a b) = ⊥
 
 -- ---- a whole reading: the first of its rules, or none
@@ -87,12 +87,12 @@ pub data Read (NotFinite OutOfRange Beyond : Type 0) : Placed → Type 0 where
 -- ---- EACH REFUSAL OF A READING EXACTLY THEN, AND PLACED WHERE THERE IS NONE
 
 pub record ReadingRows (w : White) (r : Reading) : Type 0 where
-  pub is-5 : place w r ≡ Refused 5 ↔ NotFinite r
-  pub is-6 : place w r ≡ Refused 6 ↔ (OutOfRange r × ¬ (NotFinite r))
-  pub is-8 : place w r ≡ Refused 8 ↔ (Beyond w r × ¬ (NotFinite r) × ¬ (OutOfRange r))
-  pub is-placed : ((c : GridColour) × (place w r ≡ At c)) ↔ (¬ (NotFinite r) × ¬ (OutOfRange r) × ¬ (Beyond w r))
+  pub is_5 : place w r ≡ Refused 5 ↔ NotFinite r
+  pub is_6 : place w r ≡ Refused 6 ↔ (OutOfRange r × ¬ (NotFinite r))
+  pub is_8 : place w r ≡ Refused 8 ↔ (Beyond w r × ¬ (NotFinite r) × ¬ (OutOfRange r))
+  pub is_placed : ((c : GridColour) × (place w r ≡ At c)) ↔ (¬ (NotFinite r) × ¬ (OutOfRange r) × ¬ (Beyond w r))
 
 pub record WrittenRows (w : White) (r : Written) : Type 0 where
-  pub is-6 : placeWritten w r ≡ Refused 6 ↔ WrittenOutOfRange r
-  pub is-8 : placeWritten w r ≡ Refused 8 ↔ (WrittenBeyond w r × ¬ (WrittenOutOfRange r))
-  pub is-placed : ((c : GridColour) × (placeWritten w r ≡ At c)) ↔ (¬ (WrittenOutOfRange r) × ¬ (WrittenBeyond w r))
+  pub is_6 : place_written w r ≡ Refused 6 ↔ WrittenOutOfRange r
+  pub is_8 : place_written w r ≡ Refused 8 ↔ (WrittenBeyond w r × ¬ (WrittenOutOfRange r))
+  pub is_placed : ((c : GridColour) × (place_written w r ≡ At c)) ↔ (¬ (WrittenOutOfRange r) × ¬ (WrittenBeyond w r))

@@ -3,9 +3,9 @@
 use Rattle.std.specs.Prelude.{◌≡◌, refl, false, pos, Float}
 use Rattle.std.specs.Float.{fin}
 use Rattle.std.specs.Float.Ieee.Exact.{HasValue}
-use Rattle.rounding.specs.Root.{rootOf}
-use Rattle.reading.specs.Reading.{floatUnits}
-use Rattle.reading.specs.Reading.Laws.{float-as-decimal}
+use Rattle.rounding.specs.Root.{root_of}
+use Rattle.reading.specs.Reading.{float_units}
+use Rattle.reading.specs.Reading.Laws.{float_as_decimal}
 use Rattle.reading.specs.declared.decimal.Decimal.{Decimal}
 use Rattle.reading.specs.declared.quantity.Quantity.TheVariants.{Tristimulus, Lightness, Opponent}
 use Rattle.colour.specs.declared.white.White.{White}
@@ -15,13 +15,13 @@ use Rattle.colour.specs.declared.placed.Reading.{Reading}
 use Rattle.colour.specs.declared.placed.Reading.TheVariants as R
 use Rattle.colour.specs.declared.placed.Written.{Written}
 use Rattle.colour.specs.declared.placed.Written.TheVariants as W
-use Rattle.colour.specs.White.{whiteOf}
-use Rattle.colour.specs.Conversion.{aboveCut, fHigh, fLow, f, lightness, convert}
-use Rattle.colour.specs.Placed.{take, accepted, place, placeWritten}
+use Rattle.colour.specs.White.{white_of}
+use Rattle.colour.specs.Conversion.{above_cut, f_high, f_low, f, lightness, convert}
+use Rattle.colour.specs.Placed.{take, accepted, place, place_written}
 
 -- against this white both come to the same colour of the grid, or to the same refusal
 abbrev pub PlacedAlike : White → Reading → Written → Type 0
-PlacedAlike w r d = place w r ≡ placeWritten w d
+PlacedAlike w r d = place w r ≡ place_written w d
 
 -- ---- the same exact values
 
@@ -39,30 +39,30 @@ pub data SaysTheSame : Reading → Written → Type 0 where
       SaysTheSame (R.Lab l a b) (W.Lab p q r)
 
 -- READINGS OF THE SAME VALUE ARE PLACED ALIKE, against every white
-pub same-value-same-place : {r : Reading} {d : Written} → SaysTheSame r d → (w : White) → PlacedAlike w r d
-unfolding place placeWritten
-same-value-same-place (xyz {x} {y} {z} {p} {q} {r} hx hy hz) w =
-    rw (float-as-decimal Tristimulus x p hx, float-as-decimal Tristimulus y q hy, float-as-decimal Tristimulus z r hz)
-same-value-same-place (lab {l} {a} {b} {p} {q} {r} hl ha hb) w =
-    rw (float-as-decimal Lightness l p hl, float-as-decimal Opponent a q ha, float-as-decimal Opponent b r hb)
+pub same_value_same_place : {r : Reading} {d : Written} → SaysTheSame r d → (w : White) → PlacedAlike w r d
+unfolding place place_written
+same_value_same_place (xyz {x} {y} {z} {p} {q} {r} hx hy hz) w =
+    rw (float_as_decimal Tristimulus x p hx, float_as_decimal Tristimulus y q hy, float_as_decimal Tristimulus z r hz)
+same_value_same_place (lab {l} {a} {b} {p} {q} {r} hl ha hb) w =
+    rw (float_as_decimal Lightness l p hl, float_as_decimal Opponent a q ha, float_as_decimal Opponent b r hb)
 
 -- ---- readings that are refused against every white
 
 -- L* = 200
-abbrev pub outOfRange : Reading
-outOfRange = R.Lab (fin false 25 (pos 3)) (fin false 0 (pos 0)) (fin false 0 (pos 0))
+abbrev pub out_of_range : Reading
+out_of_range = R.Lab (fin false 25 (pos 3)) (fin false 0 (pos 0)) (fin false 0 (pos 0))
 
-pub six-in-every-white : (w : White) → place w outOfRange ≡ Refused 6
-unfolding place take floatUnits
-six-in-every-white w = refl
+pub six_in_every_white : (w : White) → place w out_of_range ≡ Refused 6
+unfolding place take float_units
+six_in_every_white w = refl
 
 -- X = 0, Y = 100, Z = 0
-abbrev pub beyondTheGrid : Reading
-beyondTheGrid = R.Xyz (fin false 0 (pos 0)) (fin false 25 (pos 2)) (fin false 0 (pos 0))
+abbrev pub beyond_the_grid : Reading
+beyond_the_grid = R.Xyz (fin false 0 (pos 0)) (fin false 25 (pos 2)) (fin false 0 (pos 0))
 
-pub eight-in-every-white : (w : White) → place w beyondTheGrid ≡ Refused 8
-unfolding place take accepted floatUnits rootOf whiteOf aboveCut fHigh fLow f lightness convert
-eight-in-every-white D65Ten = refl
-eight-in-every-white D65Two = refl
-eight-in-every-white CTen = refl
-eight-in-every-white CTwo = refl
+pub eight_in_every_white : (w : White) → place w beyond_the_grid ≡ Refused 8
+unfolding place take accepted float_units root_of white_of above_cut f_high f_low f lightness convert
+eight_in_every_white D65Ten = refl
+eight_in_every_white D65Two = refl
+eight_in_every_white CTen = refl
+eight_in_every_white CTwo = refl

@@ -2,7 +2,7 @@
 use Rattle.std.specs.Prelude.{◌≡◌, refl, Bool, true, false, ◌||◌, cond, ℕ, ◌≤◌, ℤ}
 use Rattle.std.proofs.Math.Path.{ap}
 use Rattle.std.proofs.Common.{arith}
-use Rattle.reading.specs.Reading.{range_of, isWithin}
+use Rattle.reading.specs.Reading.{range_of, is_within}
 use Rattle.reading.specs.declared.quantity.Quantity.{Quantity}
 use Rattle.reading.specs.declared.quantity.Quantity.TheVariants.{Tristimulus, Lightness, Opponent}
 use Rattle.reading.specs.declared.quantity.Units.{Units}
@@ -13,9 +13,9 @@ use Rattle.colour.specs.declared.white.TristimulusValues.{TristimulusValues}
 use Rattle.colour.specs.declared.conversion.GridColour.{GridColour}
 use Rattle.colour.specs.declared.placed.Placed.{Placed}
 use Rattle.colour.specs.declared.placed.Placed.TheVariants.{At, Refused}
-use Rattle.colour.specs.White.{whiteOf}
+use Rattle.colour.specs.White.{white_of}
 use Rattle.colour.specs.Conversion.Ranges.{Against, Measured}
-use Rattle.colour.specs.Placed.{isNotFinite, fault, take, accepted, placeXyz, placeLab, takeXyz, takeLab}
+use Rattle.colour.specs.Placed.{is_not_finite, fault, take, accepted, place_xyz, place_lab, take_xyz, take_lab}
 
 -- ---- three readings together: all have units, which are handed on, or they are refused
 
@@ -35,23 +35,23 @@ takes OutOfRange v w next = refused
 
 -- the number that refuses them: 5 at the first that is not finite, 6 if none is
 module _ (u v w : Units) where
-  abbrev anyNotFinite : Bool
-  anyNotFinite = isNotFinite u || isNotFinite v || isNotFinite w
+  abbrev any_not_finite : Bool
+  any_not_finite = is_not_finite u || is_not_finite v || is_not_finite w
 
-  fault-by : (b : Bool) → anyNotFinite ≡ b → fault u v w ≡ cond b 5 6
-  fault-by b h = ap (λ (t : Bool). cond t 5 6) h
+  fault_by : (b : Bool) → any_not_finite ≡ b → fault u v w ≡ cond b 5 6
+  fault_by b h = ap (λ (t : Bool). cond t 5 6) h
 
-  pub fault-first : isNotFinite u ≡ true → fault u v w ≡ 5
-  fault-first hu = fault-by true (rw hu)
+  pub fault_first : is_not_finite u ≡ true → fault u v w ≡ 5
+  fault_first hu = fault_by true (rw hu)
 
-  pub fault-second : isNotFinite u ≡ false → isNotFinite v ≡ true → fault u v w ≡ 5
-  fault-second hu hv = fault-by true (rw (hu, hv))
+  pub fault-second : is_not_finite u ≡ false → is_not_finite v ≡ true → fault u v w ≡ 5
+  fault-second hu hv = fault_by true (rw (hu, hv))
 
-  pub fault-third : isNotFinite u ≡ false → isNotFinite v ≡ false → isNotFinite w ≡ true → fault u v w ≡ 5
-  fault-third hu hv hw = fault-by true (rw (hu, hv, hw))
+  pub fault-third : is_not_finite u ≡ false → is_not_finite v ≡ false → is_not_finite w ≡ true → fault u v w ≡ 5
+  fault-third hu hv hw = fault_by true (rw (hu, hv, hw))
 
-  pub fault-none : isNotFinite u ≡ false → isNotFinite v ≡ false → isNotFinite w ≡ false → fault u v w ≡ 6
-  fault-none hu hv hw = fault-by false (rw (hu, hv, hw))
+  pub fault_none : is_not_finite u ≡ false → is_not_finite v ≡ false → is_not_finite w ≡ false → fault u v w ≡ 6
+  fault_none hu hv hw = fault_by false (rw (hu, hv, hw))
 
 -- a reading that has no units
 pub data NoUnits : Units → Type 0 where
@@ -60,10 +60,10 @@ pub data NoUnits : Units → Type 0 where
 
 -- each way out, as the readings are looked at in turn
 module _ (next : (x y z : ℤ) → Placed) where
-  pub take-first-refused : {n : ℕ} (u v w : Units) → NoUnits u → n ≡ fault u v w → Refused n ≡ take u v w next
+  pub take_first_refused : {n : ℕ} (u v w : Units) → NoUnits u → n ≡ fault u v w → Refused n ≡ take u v w next
   unfolding take
-  take-first-refused u v w not_finite e = ap Refused e
-  take-first-refused u v w out_of_range e = ap Refused e
+  take_first_refused u v w not_finite e = ap Refused e
+  take_first_refused u v w out_of_range e = ap Refused e
 
   pub take-second-refused :
       {n : ℕ} {x : ℤ} (u v w : Units) → u ≡ Of x → NoUnits v → n ≡ fault (Of x) v w → Refused n ≡ take u v w next
@@ -90,8 +90,8 @@ against x h l m = record { value = h; low = l; high = m }
 
 pub measured :
     (w : White) {c : TristimulusValues} → c.X ≤ 150000000 → c.Y ≤ 150000000 → c.Z ≤ 150000000 →
-    Measured c (whiteOf w)
-unfolding whiteOf
+    Measured c (white_of w)
+unfolding white_of
 measured D65Ten x y z =
     record {
       X = against _ x (omega arith) (omega arith);
@@ -120,30 +120,30 @@ measured CTwo x y z =
 -- ---- a converted colour: its three ways out
 
 module _ (c : GridColour) where
-  pub accepted-beyond-a : isWithin (range_of Opponent) c.a.0 ≡ false → accepted c ≡ Refused 8
+  pub accepted_beyond_a : is_within (range_of Opponent) c.a.0 ≡ false → accepted c ≡ Refused 8
   unfolding accepted
-  accepted-beyond-a h = rw h
+  accepted_beyond_a h = rw h
 
-  pub accepted-beyond-b :
-      isWithin (range_of Opponent) c.a.0 ≡ true → isWithin (range_of Opponent) c.b.0 ≡ false →
+  pub accepted_beyond_b :
+      is_within (range_of Opponent) c.a.0 ≡ true → is_within (range_of Opponent) c.b.0 ≡ false →
       accepted c ≡ Refused 8
   unfolding accepted
-  accepted-beyond-b h g = rw (h, g)
+  accepted_beyond_b h g = rw (h, g)
 
-  pub accepted-at :
-      isWithin (range_of Opponent) c.a.0 ≡ true → isWithin (range_of Opponent) c.b.0 ≡ true → accepted c ≡ At c
+  pub accepted_at :
+      is_within (range_of Opponent) c.a.0 ≡ true → is_within (range_of Opponent) c.b.0 ≡ true → accepted c ≡ At c
   unfolding accepted
-  accepted-at h g = rw (h, g)
+  accepted_at h g = rw (h, g)
 
 -- ---- three numbers of a kind, floats or decimals, from their units
 
 module _ {A : Type 0} (units : Quantity → A → Units) (x y z : A) {u v w : Units} {p : Placed} where
-  pub take-xyz-is :
+  pub take_xyz_is :
       (white : White) → u ≡ units Tristimulus x → v ≡ units Tristimulus y → w ≡ units Tristimulus z →
-      p ≡ take u v w (placeXyz white) → p ≡ takeXyz units white x y z
-  take-xyz-is white eu ev ew e = cc
+      p ≡ take u v w (place_xyz white) → p ≡ take_xyz units white x y z
+  take_xyz_is white eu ev ew e = cc
 
-  pub take-lab-is :
+  pub take_lab_is :
       u ≡ units Lightness x → v ≡ units Opponent y → w ≡ units Opponent z →
-      p ≡ take u v w placeLab → p ≡ takeLab units x y z
-  take-lab-is eu ev ew e = cc
+      p ≡ take u v w place_lab → p ≡ take_lab units x y z
+  take_lab_is eu ev ew e = cc

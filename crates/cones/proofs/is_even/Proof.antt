@@ -1,16 +1,16 @@
 -- `is_even` meets its contract: the two tests in turn, as the definition has them. Assumes nothing.
 use borrow.Author.Tests.{eq-eqb, ne_eqb}
-use Rattle.cones.specs.Zip.{isEven}
+use Rattle.cones.specs.Zip.{is_even}
 use Rattle.cones.proofs.is_even.Statement.{statement}
 use Rattle.cones.proofs.is_even.Tie as tie
 
 uneven : tie.Need-returns
-unfolding isEven
+unfolding is_even
 uneven c = rw (ne_eqb _ _ c.if1.true)
 
 last : tie.Need-returns-2
-unfolding isEven
+unfolding is_even
 last c = rw (eq-eqb _ _ c.if1.false)
 
-pub is-even-spec : {M : Type 1} → statement M
-is-even-spec = tie.close (tie.spec uneven last)
+pub is_even_spec : {M : Type 1} → statement M
+is_even_spec = tie.close (tie.spec uneven last)

@@ -10,17 +10,17 @@ use Rattle.cones.proofs.reading_of.Statement.{statement}
 use Rattle.cones.proofs.reading_of.Tie as tie
 
 module _ (k : Kind) (x y z : Float) where
-  xyz-is : k ≡ Xyz → R.Xyz x y z ≡ reading_of k x y z
-  xyz-is h = rw h
+  xyz_is : k ≡ Xyz → R.Xyz x y z ≡ reading_of k x y z
+  xyz_is h = rw h
 
-  lab-is : k ≡ Lab → R.Lab x y z ≡ reading_of k x y z
-  lab-is h = rw h
+  lab_is : k ≡ Lab → R.Lab x y z ≡ reading_of k x y z
+  lab_is h = rw h
 
-pub reading-of-spec : {M : Type 1} → statement M
-reading-of-spec =
+pub reading_of_spec : {M : Type 1} → statement M
+reading_of_spec =
     tie.close
     (tie.spec
     (λ c. search rules)
     (λ c. search rules)
-    (λ c. xyz-is _ _ _ _ c.enum_told.given.1)
-    (λ c. lab-is _ _ _ _ c.enum-told2.given.1))
+    (λ c. xyz_is _ _ _ _ c.enum_told.given.1)
+    (λ c. lab_is _ _ _ _ c.enum-told2.given.1))

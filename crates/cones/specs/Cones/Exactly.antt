@@ -12,8 +12,8 @@ use Rattle.colour.specs.declared.placed.Placed.TheVariants.{At, Refused}
 use Rattle.colour.specs.declared.placed.Reading.{Reading}
 use Rattle.colour.specs.declared.white.White.{White}
 use Rattle.cones.specs.InTurn.{denied, refused}
-use Rattle.cones.specs.InTurn.Exactly.{IsTaken, is-taken, FirstRefused, refused-exactly}
-use Rattle.cones.specs.Cones.{noReading, placedTurn, turnIn, conesIn}
+use Rattle.cones.specs.InTurn.Exactly.{IsTaken, is_taken, FirstRefused, refused_exactly}
+use Rattle.cones.specs.Cones.{no_reading, placed_turn, turn_in, cones_in}
 
 module _ (w : White) where
   -- no rule refuses it
@@ -30,71 +30,71 @@ module _ (w : White) where
   -- cone i has A, and all before it are accepted
   pub record FirstBy (A : Reading → Type 0) (rs : List Reading) (i : ℕ) : Type 0 where
     pub within : i < length rs
-    pub here : A (get_or rs i noReading)
-    pub before : (j : ℕ) → j < i → Accepted (get_or rs j noReading)
+    pub here : A (get_or rs i no_reading)
+    pub before : (j : ℕ) → j < i → Accepted (get_or rs j no_reading)
 
   pub record ConeRows (rs : List Reading) (i : ℕ) : Type 0 where
-    pub is-5 : conesIn w rs ≡ refused 5 i ↔ FirstBy NotFinite rs i
-    pub is-6 : conesIn w rs ≡ refused 6 i ↔ FirstBy OutAlone rs i
-    pub is-8 : conesIn w rs ≡ refused 8 i ↔ FirstBy BeyondAlone rs i
+    pub is_5 : cones_in w rs ≡ refused 5 i ↔ FirstBy NotFinite rs i
+    pub is_6 : cones_in w rs ≡ refused 6 i ↔ FirstBy OutAlone rs i
+    pub is_8 : cones_in w rs ≡ refused 8 i ↔ FirstBy BeyondAlone rs i
 
   -- ---- the proof
 
-  denied-exactly : (p : Placed) (n : ℕ) → placedTurn p ≡ denied n ↔ p ≡ Refused n
-  denied-exactly p n = (only_if p, ap placedTurn)
+  denied_exactly : (p : Placed) (n : ℕ) → placed_turn p ≡ denied n ↔ p ≡ Refused n
+  denied_exactly p n = (only_if p, ap placed_turn)
     where
-      only_if : (q : Placed) → placedTurn q ≡ denied n → q ≡ Refused n
+      only_if : (q : Placed) → placed_turn q ≡ denied n → q ≡ Refused n
       only_if (At c) e = let no : ◌≡◌ {A = ℕ} 0 1 = cc in absurd (omega arith)
       only_if (Refused m) e = cc
 
-  taken-exactly : (r : Reading) → IsTaken (turnIn w r) ↔ Accepted r
-  taken-exactly r = (
-    λ t. (reading-rows w r).is-placed.0 (placed (place w r) refl t),
-    λ a. back ((reading-rows w r).is-placed.1 a),
+  taken_exactly : (r : Reading) → IsTaken (turn_in w r) ↔ Accepted r
+  taken_exactly r = (
+    λ t. (reading-rows w r).is_placed.0 (placed (place w r) refl t),
+    λ a. back ((reading-rows w r).is_placed.1 a),
   )
     where
-      placed : (p : Placed) → place w r ≡ p → IsTaken (placedTurn p) → (c : GridColour) × (place w r ≡ At c)
+      placed : (p : Placed) → place w r ≡ p → IsTaken (placed_turn p) → (c : GridColour) × (place w r ≡ At c)
       placed (At c) e t = (c, e)
 
-      back : (c : GridColour) × (place w r ≡ At c) → IsTaken (turnIn w r)
-      back (c, e) = subst (λ (p : Placed). IsTaken (placedTurn p)) (sym e) (is-taken c)
+      back : (c : GridColour) × (place w r ≡ At c) → IsTaken (turn_in w r)
+      back (c, e) = subst (λ (p : Placed). IsTaken (placed_turn p)) (sym e) (is_taken c)
 
   module _ (rs : List Reading) (i n : ℕ) {A : Reading → Type 0} (rule : (r : Reading) → place w r ≡ Refused n ↔ A r)
     where
-      first-exactly : conesIn w rs ≡ refused n i ↔ FirstBy A rs i
-      first-exactly = (
-        λ e. to ((refused-exactly (turnIn w) noReading rs n i).0 e),
-        λ f. (refused-exactly (turnIn w) noReading rs n i).1 (from f),
+      first_exactly : cones_in w rs ≡ refused n i ↔ FirstBy A rs i
+      first_exactly = (
+        λ e. to ((refused_exactly (turn_in w) no_reading rs n i).0 e),
+        λ f. (refused_exactly (turn_in w) no_reading rs n i).1 (from f),
       )
         where
-          to : FirstRefused (turnIn w) noReading rs n i → FirstBy A rs i
+          to : FirstRefused (turn_in w) no_reading rs n i → FirstBy A rs i
           to f =
               record {
                 within = f.within;
-                here = (rule _).0 ((denied-exactly _ n).0 f.here);
-                before = λ j l. (taken-exactly _).0 (f.before j l);
+                here = (rule _).0 ((denied_exactly _ n).0 f.here);
+                before = λ j l. (taken_exactly _).0 (f.before j l);
               }
 
-          from : FirstBy A rs i → FirstRefused (turnIn w) noReading rs n i
+          from : FirstBy A rs i → FirstRefused (turn_in w) no_reading rs n i
           from f =
               record {
                 within = f.within;
-                here = (denied-exactly _ n).1 ((rule _).1 f.here);
-                before = λ j l. (taken-exactly _).1 (f.before j l);
+                here = (denied_exactly _ n).1 ((rule _).1 f.here);
+                before = λ j l. (taken_exactly _).1 (f.before j l);
               }
 
   -- THE FIRST REFUSED CONE AND ITS NUMBER, EXACTLY THEN
   pub cone-rows : (rs : List Reading) (i : ℕ) → ConeRows rs i
   cone-rows rs i =
       record {
-        is-5 = first-exactly rs i 5 (λ r. (reading-rows w r).is-5);
-        is-6 = first-exactly rs i 6 (λ r. (reading-rows w r).is-6);
-        is-8 = first-exactly rs i 8 (λ r. (reading-rows w r).is-8);
+        is_5 = first_exactly rs i 5 (λ r. (reading-rows w r).is_5);
+        is_6 = first_exactly rs i 6 (λ r. (reading-rows w r).is_6);
+        is_8 = first_exactly rs i 8 (λ r. (reading-rows w r).is_8);
       }
 
   -- and there is no other number
-  pub cone-refused-by :
-      (rs : List Reading) {n i : ℕ} → conesIn w rs ≡ refused n i → (n ≡ 5) ⊎ ((n ≡ 6) ⊎ (n ≡ 8))
-  cone-refused-by rs {n} {i} e =
-      place-refused w (get_or rs i noReading)
-      ((denied-exactly _ n).0 ((refused-exactly (turnIn w) noReading rs n i).0 e).here)
+  pub cone_refused_by :
+      (rs : List Reading) {n i : ℕ} → cones_in w rs ≡ refused n i → (n ≡ 5) ⊎ ((n ≡ 6) ⊎ (n ≡ 8))
+  cone_refused_by rs {n} {i} e =
+      place-refused w (get_or rs i no_reading)
+      ((denied_exactly _ n).0 ((refused_exactly (turn_in w) no_reading rs n i).0 e).here)

@@ -9,10 +9,10 @@ use Prim.Native.Nat.{ℕ, zero, suc, ◌+◌, ◌<◌, suc-le-suc}
 use Rattle.std.proofs.Math.Nat.{le_of_suc-le-suc, add-zero}
 use Rattle.rounding.specs.Every.{Every}
 use Rattle.rounding.specs.Every as E
-use Rattle.cones.specs.InTurn.{Turn, taken, denied, whole, refused, either, after, inTurnFrom, in_turn}
+use Rattle.cones.specs.InTurn.{Turn, taken, denied, whole, refused, either, after, in_turn_from, in_turn}
 
 pub data IsTaken {W : Type 0} : Turn W → Type 0 where
-  is-taken : (v : W) → IsTaken (taken v)
+  is_taken : (v : W) → IsTaken (taken v)
 
 module _ {P W : Type 0} (turn : P → Turn W) where
   -- d is what a read past the end would be
@@ -40,13 +40,13 @@ module _ {P W : Type 0} (turn : P → Turn W) where
   module _ (d : P) where
     -- ---- if
 
-    refused-if : (ps : List P) (n i k : ℕ) → FirstRefused d ps n i → inTurnFrom turn k ps ≡ refused n (k + i)
-    unfolding inTurnFrom
-    refused-if [] n i k h = absurd (not-suc-le-zero h.within)
-    refused-if (p ∷ ps) n zero k h = rw (h.here, add-zero k)
-    refused-if (p ∷ ps) n (suc i) k h =
+    refused_if : (ps : List P) (n i k : ℕ) → FirstRefused d ps n i → in_turn_from turn k ps ≡ refused n (k + i)
+    unfolding in_turn_from
+    refused_if [] n i k h = absurd (not-suc-le-zero h.within)
+    refused_if (p ∷ ps) n zero k h = rw (h.here, add-zero k)
+    refused_if (p ∷ ps) n (suc i) k h =
         go (turn p) (h.before 0 (zero-lt-suc i))
-        (refused-if ps n i (suc k)
+        (refused_if ps n i (suc k)
         (record {
           within = le_of_suc-le-suc h.within;
           here = h.here;
@@ -54,15 +54,15 @@ module _ {P W : Type 0} (turn : P → Turn W) where
         }))
       where
         go :
-            (t : Turn W) → IsTaken t → inTurnFrom turn (suc k) ps ≡ refused n (suc k + i) →
-            either t (λ (v : W). after (v ∷ []) (inTurnFrom turn (suc k) ps)) (λ (m : ℕ). refused m k)
+            (t : Turn W) → IsTaken t → in_turn_from turn (suc k) ps ≡ refused n (suc k + i) →
+            either t (λ (v : W). after (v ∷ []) (in_turn_from turn (suc k) ps)) (λ (m : ℕ). refused m k)
             ≡ refused n (k + suc i)
-        go (taken v) (is-taken w) rest = ap (after (v ∷ [])) rest ∙ ap (refused n) (suc-add k i ∙ sym (add-suc k i))
+        go (taken v) (is_taken w) rest = ap (after (v ∷ [])) rest ∙ ap (refused n) (suc-add k i ∙ sym (add-suc k i))
 
-    whole-if : {ps : List P} {vs : List W} (k : ℕ) → AllTaken ps vs → inTurnFrom turn k ps ≡ whole vs
-    unfolding inTurnFrom
-    whole-if k none = refl
-    whole-if k (more {v = v} e h) = rw e (ap (after (v ∷ [])) (whole-if (suc k) h))
+    whole_if : {ps : List P} {vs : List W} (k : ℕ) → AllTaken ps vs → in_turn_from turn k ps ≡ whole vs
+    unfolding in_turn_from
+    whole_if k none = refl
+    whole_if k (more {v = v} e h) = rw e (ap (after (v ∷ [])) (whole_if (suc k) h))
 
     -- ---- one of the two always is
 
@@ -83,65 +83,65 @@ module _ {P W : Type 0} (turn : P → Turn W) where
             first n (suc i) (record { within = suc-le-suc h.within; here = h.here; before = before })
           where
             before : (j : ℕ) → j < suc i → IsTaken (turn (get_or (p ∷ ps) j d))
-            before zero l = subst IsTaken (sym g) (is-taken v)
+            before zero l = subst IsTaken (sym g) (is_taken v)
             before (suc j) l = h.before j (le_of_suc-le-suc l)
 
     -- ---- only if
 
-    refused-only-if : (ps : List P) (n i : ℕ) → in_turn turn ps ≡ refused n i → FirstRefused d ps n i
-    refused-only-if ps n i h = go (one_of ps)
+    refused_only_if : (ps : List P) (n i : ℕ) → in_turn turn ps ≡ refused n i → FirstRefused d ps n i
+    refused_only_if ps n i h = go (one_of ps)
       where
         go : OneOf ps → FirstRefused d ps n i
-        go (all vs g) = let e = whole-if 0 g in let no : ◌≡◌ {A = ℕ} 0 1 = cc in absurd (omega arith)
+        go (all vs g) = let e = whole_if 0 g in let no : ◌≡◌ {A = ℕ} 0 1 = cc in absurd (omega arith)
         go (first m j g) =
-            let e = refused-if ps m j 0 g in
+            let e = refused_if ps m j 0 g in
             let em : m ≡ n = cc in
             let ej : 0 + j ≡ i = cc in
             subst (λ (x : ℕ). FirstRefused d ps x i) em (subst (FirstRefused d ps m) (omega arith) g)
 
-    whole-only-if : (ps : List P) (vs : List W) → in_turn turn ps ≡ whole vs → AllTaken ps vs
-    whole-only-if ps vs h = go (one_of ps)
+    whole_only_if : (ps : List P) (vs : List W) → in_turn turn ps ≡ whole vs → AllTaken ps vs
+    whole_only_if ps vs h = go (one_of ps)
       where
         go : OneOf ps → AllTaken ps vs
-        go (all us g) = let e = whole-if 0 g in let same : us ≡ vs = cc in subst (AllTaken ps) same g
-        go (first m j g) = let e = refused-if ps m j 0 g in let no : ◌≡◌ {A = ℕ} 0 1 = cc in absurd (omega arith)
+        go (all us g) = let e = whole_if 0 g in let same : us ≡ vs = cc in subst (AllTaken ps) same g
+        go (first m j g) = let e = refused_if ps m j 0 g in let no : ◌≡◌ {A = ℕ} 0 1 = cc in absurd (omega arith)
 
     -- THE FIRST REFUSED ELEMENT, EXACTLY THEN
-    pub refused-exactly : (ps : List P) (n i : ℕ) → in_turn turn ps ≡ refused n i ↔ FirstRefused d ps n i
-    refused-exactly ps n i = (refused-only-if ps n i, λ f. refused-if ps n i 0 f ∙ ap (refused n) (zero-add i))
+    pub refused_exactly : (ps : List P) (n i : ℕ) → in_turn turn ps ≡ refused n i ↔ FirstRefused d ps n i
+    refused_exactly ps n i = (refused_only_if ps n i, λ f. refused_if ps n i 0 f ∙ ap (refused n) (zero-add i))
 
     -- ALL OF THEM, EXACTLY THEN
-    pub whole-exactly : (ps : List P) (vs : List W) → in_turn turn ps ≡ whole vs ↔ AllTaken ps vs
-    whole-exactly ps vs = (whole-only-if ps vs, whole-if 0)
+    pub whole_exactly : (ps : List P) (vs : List W) → in_turn turn ps ≡ whole vs ↔ AllTaken ps vs
+    whole_exactly ps vs = (whole_only_if ps vs, whole_if 0)
 
   -- the values are determined
-  pub taken-one : {ps : List P} {us vs : List W} → AllTaken ps us → AllTaken ps vs → us ≡ vs
-  taken-one none none = refl
-  taken-one (more {ps = ps} {vs = us} e h) (more {vs = vs} f g) =
-      let rest = taken-one h g in
+  pub taken_one : {ps : List P} {us vs : List W} → AllTaken ps us → AllTaken ps vs → us ≡ vs
+  taken_one none none = refl
+  taken_one (more {ps = ps} {vs = us} e h) (more {vs = vs} f g) =
+      let rest = taken_one h g in
       cc
 
   -- elements that are all the same have one value
-  pub taken-same :
+  pub taken_same :
       {q : P} {v : W} → turn q ≡ taken v → {ps : List P} {vs : List W} → AllTaken ps vs →
       Every (λ (p : P). p ≡ q) ps → Every (λ (u : W). u ≡ v) vs
-  taken-same e none E.none = E.none
-  taken-same {v = v} e (more {v = u} h hs) (E.more p ps) =
+  taken_same e none E.none = E.none
+  taken_same {v = v} e (more {v = u} h hs) (E.more p ps) =
       let f = ap turn p in
       let same : u ≡ v = cc in
-      E.more same (taken-same e hs ps)
+      E.more same (taken_same e hs ps)
 
   -- IN ANOTHER ORDER all are taken too, with the same values in that order
-  pub taken-perm :
+  pub taken_perm :
       {ps qs : List P} {vs : List W} → Permᴰ ps qs → AllTaken ps vs →
       (us : List W) × (AllTaken qs us × Permᴰ vs us)
-  taken-perm Permᴰ.nil none = ([], (none, Permᴰ.nil))
-  taken-perm (Permᴰ.cons e d) (more {v = v} h hs) =
-      let (us, (t, q)) = taken-perm d hs in
+  taken_perm Permᴰ.nil none = ([], (none, Permᴰ.nil))
+  taken_perm (Permᴰ.cons e d) (more {v = v} h hs) =
+      let (us, (t, q)) = taken_perm d hs in
       (v ∷ us, (more (ap turn (sym e) ∙ h) t, Permᴰ.cons refl q))
-  taken-perm (Permᴰ.swap e₁ e₂) (more {v = v} h (more {v = w} {vs = vs} g hs)) =
+  taken_perm (Permᴰ.swap e₁ e₂) (more {v = v} h (more {v = w} {vs = vs} g hs)) =
       (w ∷ v ∷ vs, (more (ap turn (sym e₂) ∙ g) (more (ap turn (sym e₁) ∙ h) hs), Permᴰ.swap refl refl))
-  taken-perm (Permᴰ.trans d₁ d₂) h =
-      let (us, (t, q)) = taken-perm d₁ h in
-      let (ws, (s, r)) = taken-perm d₂ t in
+  taken_perm (Permᴰ.trans d₁ d₂) h =
+      let (us, (t, q)) = taken_perm d₁ h in
+      let (ws, (s, r)) = taken_perm d₂ t in
       (ws, (s, Permᴰ.trans q r))

@@ -6,7 +6,7 @@ use Rattle.std.proofs.Common.{sym, ◌∙◌, add-one, arith, drop_of_length-le,
 use Rattle.std.proofs.Math.Path.{ap}
 use mathlib.Core.List.{List, [], ◌∷◌, ◌++◌, append_assoc, append-nil}
 use Rattle.std.proofs.Math.ListN.{length-append}
-use Rattle.cones.specs.InTurn.{Turn, taken, denied, Turns, whole, refused, either, after, inTurnFrom, in_turn}
+use Rattle.cones.specs.InTurn.{Turn, taken, denied, Turns, whole, refused, either, after, in_turn_from, in_turn}
 
 module _ {W : Type 0} where
   after_none : (t : Turns W) → t ≡ after [] t
@@ -23,7 +23,7 @@ module _ {P W : Type 0} (turn : P → Turn W) where
     pub so_far : List W
     pub count : length so_far ≡ i
     pub within : i ≤ length ps
-    pub same : in_turn turn ps ≡ after so_far (inTurnFrom turn i (drop i ps))
+    pub same : in_turn turn ps ≡ after so_far (in_turn_from turn i (drop i ps))
     pub holds : Q so_far
 
   -- all are taken, and Q holds of their values
@@ -38,36 +38,36 @@ module _ {P W : Type 0} (turn : P → Turn W) where
       record { so_far = []; count = refl; within = omega arith; same = after_none (in_turn turn ps); holds = h }
 
   module _ {ps : List P} {i : ℕ} {Q : List W → Type 0} (k : Passed ps i Q) where
-    pub passed-all : length ps ≤ i → AllPassed ps Q
-    unfolding inTurnFrom
-    passed-all h =
+    pub passed_all : length ps ≤ i → AllPassed ps Q
+    unfolding in_turn_from
+    passed_all h =
         record {
           values = k.so_far ++ [];
           count = length-append k.so_far [] ∙ omega (arith, k.count, k.within);
-          is = k.same ∙ ap (λ (r : List P). after k.so_far (inTurnFrom turn i r)) (drop_of_length-le ps h);
+          is = k.same ∙ ap (λ (r : List P). after k.so_far (in_turn_from turn i r)) (drop_of_length-le ps h);
           holds = rw (append-nil k.so_far) k.holds;
         }
 
     module _ {p : P} (d : P) (l : i < length ps) (e : p ≡ get_or ps i d) where
-      at_head : in_turn turn ps ≡ after k.so_far (inTurnFrom turn i (p ∷ drop (suc i) ps))
+      at_head : in_turn turn ps ≡ after k.so_far (in_turn_from turn i (p ∷ drop (suc i) ps))
       at_head =
           k.same
-          ∙ ap (λ (r : List P). after k.so_far (inTurnFrom turn i r))
+          ∙ ap (λ (r : List P). after k.so_far (in_turn_from turn i r))
           (drop-cons ps i d l ∙ ap (λ (q : P). q ∷ drop (suc i) ps) (sym e))
 
       abbrev going : Turn W → Turns W
       going t =
-          either t (λ (v : W). after (v ∷ []) (inTurnFrom turn (suc i) (drop (suc i) ps))) (λ (n : ℕ). refused n i)
+          either t (λ (v : W). after (v ∷ []) (in_turn_from turn (suc i) (drop (suc i) ps))) (λ (n : ℕ). refused n i)
 
       pub passed-refused : {n : ℕ} → turn p ≡ denied n → in_turn turn ps ≡ refused n i
-      unfolding inTurnFrom
+      unfolding in_turn_from
       passed-refused g = at_head ∙ ap (λ (t : Turn W). after k.so_far (going t)) g
 
-      pub passed-more :
+      pub passed_more :
           (v : W) {R : List W → Type 0} → turn p ≡ taken v →
           ((us : List W) → length us ≡ i → Q us → R (us ++ (v ∷ []))) → Passed ps (i + 1) R
-      unfolding inTurnFrom
-      passed-more v g f =
+      unfolding in_turn_from
+      passed_more v g f =
           record {
             so_far = k.so_far ++ (v ∷ []);
             count = length-append k.so_far (v ∷ []) ∙ ap (λ (n : ℕ). n + 1) k.count;
@@ -75,6 +75,6 @@ module _ {P W : Type 0} (turn : P → Turn W) where
             same =
                 rw (add-one i)
                 (at_head ∙ ap (λ (t : Turn W). after k.so_far (going t)) g
-                ∙ after_more k.so_far v (inTurnFrom turn (suc i) (drop (suc i) ps)));
+                ∙ after_more k.so_far v (in_turn_from turn (suc i) (drop (suc i) ps)));
             holds = f k.so_far k.count k.holds;
           }

@@ -3,17 +3,17 @@ use Rattle.std.specs.Prelude.{◌≡◌, List, map, ℕ, ◌+◌, ◌^◌, ◌�
 use Rattle.std.proofs.Common.{sym, ap, ◌∙◌}
 use Rattle.std.proofs.lemmas.List.{length-map}
 use Rattle.std.proofs.Math.ListN.{get_or-map}
-use Rattle.rounding.specs.Every.{every-at}
+use Rattle.rounding.specs.Every.{every_at}
 use Rattle.reading.specs.Grid.{value_of}
 use Rattle.colour.specs.declared.conversion.GridColour.{GridColour}
 use Rattle.sheet.specs.Ranges.{InRange}
-use Rattle.cones.specs.Cones.{noColour}
+use Rattle.cones.specs.Cones.{no_colour}
 use Rattle.delivery.specs.declared.farthest.Far.{Far}
-use Rattle.delivery.specs.Delivery.{differenceFrom, differencesFrom}
+use Rattle.delivery.specs.Delivery.{difference_from, differences_from}
 use Rattle.delivery.specs.Delivery.Laws.{difference-lt}
-use Rattle.delivery.specs.Farthest.{fartherOf, nothingYet}
-use Rattle.delivery.specs.Farthest.Laws.{Searching, searching-none, searching-more, searching-all}
-use Rattle.delivery.specs.Written.{Writing, writing-none, writing_more, writing-all}
+use Rattle.delivery.specs.Farthest.{farther_of, nothing_yet}
+use Rattle.delivery.specs.Farthest.Laws.{Searching, searching_none, searching_more, searching_all}
+use Rattle.delivery.specs.Written.{Writing, writing_none, writing_more, writing_all}
 use Rattle.delivery.specs.Room.{Room, Figures}
 
 abbrev value : ℕ → Float
@@ -28,57 +28,57 @@ module _ (ds : List ℕ) (de : List Float) (enough : length ds ≤ length de) wh
   values-enough : length (map value ds) ≤ length de
   values-enough = rw (length-map ds value) enough
 
-  pub setting-none : Setting ds de 0 de nothingYet
-  setting-none =
-      record { writing = writing-none (map value ds) de values-enough; searching = searching-none ds }
+  pub setting_none : Setting ds de 0 de nothing_yet
+  setting_none =
+      record { writing = writing_none (map value ds) de values-enough; searching = searching_none ds }
 
   module _ {i : ℕ} {now : List Float} {f : Far} (k : Setting ds de i now f) where
-    pub setting-all : length ds ≤ i → Figures ds de f now
-    setting-all h =
+    pub setting_all : length ds ≤ i → Figures ds de f now
+    setting_all h =
         record {
-          far = searching-all ds k.searching h;
-          written = writing-all (map value ds) de values-enough k.writing (rw (length-map ds value) h);
+          far = searching_all ds k.searching h;
+          written = writing_all (map value ds) de values-enough k.writing (rw (length-map ds value) h);
         }
 
-    pub setting-more :
+    pub setting_more :
         {d : ℕ} {v : Float} {g : Far} (z : ℕ) → i < length ds → d ≡ get_or ds i z → v ≡ value_of (pos d) →
-        g ≡ fartherOf f d i → Setting ds de (i + 1) (set now i v) g
-    setting-more z l ed ev eg =
+        g ≡ farther_of f d i → Setting ds de (i + 1) (set now i v) g
+    setting_more z l ed ev eg =
         record {
           writing =
               writing_more (map value ds) de values-enough k.writing _ (value z) (rw (length-map ds value) l)
               (ev ∙ ap value ed ∙ sym (get_or-map value ds i z));
-          searching = searching-more ds z k.searching l ed eg;
+          searching = searching_more ds z k.searching l ed eg;
         }
 
 -- ---- the slice has an entry for each cone, and entry i is that of cone i
 
 module _ {l c : ℕ} {M : GridColour} {xs ys zs : List Float} {cs : List GridColour} {de : List Float}
     (room : Room l c M xs ys zs cs de) where
-  pub room-count : length (differencesFrom l c M cs) ≡ length xs
-  room-count = length-map cs (differenceFrom l c M) ∙ room.count
+  pub room-count : length (differences_from l c M cs) ≡ length xs
+  room-count = length-map cs (difference_from l c M) ∙ room.count
 
-  pub room-enough : length (differencesFrom l c M cs) ≤ length de
+  pub room-enough : length (differences_from l c M cs) ≤ length de
   room-enough = rw room-count room.enough
 
   module _ (i : ℕ) (few : i < length xs) where
     pub has-colour : i < length cs
     has-colour = rw room.count few
 
-    module _ {T : GridColour} (at : T ≡ get_or cs i noColour) where
-      pub cone-in-range : InRange l c M T
-      cone-in-range =
+    module _ {T : GridColour} (at : T ≡ get_or cs i no_colour) where
+      pub cone_in_range : InRange l c M T
+      cone_in_range =
           record {
             lightness = room.lightness;
             chroma = room.chroma;
             reference = room.mean;
-            specimen = rw at (every-at room.colours i noColour has-colour);
+            specimen = rw at (every_at room.colours i no_colour has-colour);
           }
 
-      pub difference-small : {d : ℕ} → d ≡ differenceFrom l c M T → d < 2 ^ 32
+      pub difference-small : {d : ℕ} → d ≡ difference_from l c M T → d < 2 ^ 32
       difference-small e =
-          rw e (difference-lt room.lightness room.chroma room.mean cone-in-range.specimen)
+          rw e (difference-lt room.lightness room.chroma room.mean cone_in_range.specimen)
 
-      pub difference-at :
-          {d : ℕ} → d ≡ differenceFrom l c M T → d ≡ get_or (differencesFrom l c M cs) i (differenceFrom l c M noColour)
-      difference-at e = e ∙ ap (differenceFrom l c M) at ∙ sym (get_or-map (differenceFrom l c M) cs i noColour)
+      pub difference_at :
+          {d : ℕ} → d ≡ difference_from l c M T → d ≡ get_or (differences_from l c M cs) i (difference_from l c M no_colour)
+      difference_at e = e ∙ ap (difference_from l c M) at ∙ sym (get_or-map (difference_from l c M) cs i no_colour)

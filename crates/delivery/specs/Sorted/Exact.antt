@@ -7,34 +7,34 @@ use Prim.Native.Nat as Nat
 use Rattle.std.proofs.Math.ListN.{drop, get_or-append}
 use Rattle.std.proofs.lemmas.List.{length-map}
 use Rattle.std.proofs.Math.Seq.{drop-append_seam}
-use Rattle.rounding.specs.Every.{Every, every-at}
+use Rattle.rounding.specs.Every.{Every, every_at}
 use Rattle.rounding.specs.Signed.{∣◌∣}
 use Rattle.reading.specs.Grid.{value_of}
-use Rattle.reading.specs.Grid.Laws.{value-exact}
+use Rattle.reading.specs.Grid.Laws.{value_exact}
 use Rattle.colour.specs.Conversion.Ranges.{OnGrid}
 use Rattle.colour.specs.Placed.{place}
-use Rattle.colour.specs.White.{whiteNumbered}
+use Rattle.colour.specs.White.{white_numbered}
 use Rattle.colour.specs.declared.conversion.GridColour.{GridColour}
 use Rattle.colour.specs.declared.placed.Placed.TheVariants.{At}
 use Rattle.colour.specs.declared.placed.Reading.{Reading}
 use Rattle.colour.specs.declared.white.White.{White}
 use Rattle.colour.specs.declared.white.Numbered.TheVariants as W
 use Rattle.cones.specs.InTurn.{Turns, whole, refused, number_of}
-use Rattle.cones.specs.InTurn.Exactly.{AllTaken, taken-length, taken_at, whole-exactly}
-use Rattle.cones.specs.Cones.{readingsOf, noReading, turnIn, conesIn, noColour}
-use Rattle.cones.specs.Cones.Exactly.{cone-refused-by}
-use Rattle.cones.specs.Cones.Laws.{readings-length, taken_of, taken-on-grid}
+use Rattle.cones.specs.InTurn.Exactly.{AllTaken, taken-length, taken_at, whole_exactly}
+use Rattle.cones.specs.Cones.{readings_of, no_reading, turn_in, cones_in, no_colour}
+use Rattle.cones.specs.Cones.Exactly.{cone_refused_by}
+use Rattle.cones.specs.Cones.Laws.{readings_length, taken_of, taken_on_grid}
 use Rattle.cones.specs.declared.Kind.{Kind}
 use Rattle.standard.specs.Figures.{zero}
 use Rattle.standard.specs.Figures.Exact.{Exact}
 use Rattle.delivery.specs.declared.sorted.Sorted.{Sorted}
-use Rattle.delivery.specs.Delivery.{meanColour, differenceFrom, differences}
-use Rattle.delivery.specs.Delivery.Laws.{mean-on-grid, difference-lt}
+use Rattle.delivery.specs.Delivery.{mean_colour, difference_from, differences}
+use Rattle.delivery.specs.Delivery.Laws.{mean_on_grid, difference-lt}
 use Rattle.delivery.specs.Farthest.{farthest}
-use Rattle.delivery.specs.Farthest.Laws.{IsFarthest, farthest-is}
+use Rattle.delivery.specs.Farthest.Laws.{IsFarthest, farthest_is}
 use Rattle.delivery.specs.Written.{written}
-use Rattle.delivery.specs.Sorted.{isShaped, delivered, sortedOf, answer_of, figures, leftIn, Sorts, CallIn}
-use Rattle.delivery.specs.Sorted.Laws.{call-in, Comes, wrong-count, no-white, wrong-factor, cones, comes}
+use Rattle.delivery.specs.Sorted.{is_shaped, delivered, sorted_of, answer_of, figures, left_in, Sorts, CallIn}
+use Rattle.delivery.specs.Sorted.Laws.{call_in, Comes, wrong-count, no_white_lem, wrong-factor, cones, comes}
 use Rattle.delivery.specs.Sorted.Laws.{answer-number}
 
 -- x is the float of z units, and exactly z / 2 ^ 20
@@ -45,22 +45,22 @@ pub record Handed (z : ℤ) (x : Float) : Type 0 where
 -- what was sorted: a white and the colours of all cones in it, l and c in their ranges
 pub record Delivery (k : Kind) (white l c : ℕ) (xs ys zs de : List Float) : Type 0 where
   pub call : CallIn l c xs ys zs de
-  pub in-white : White
-  pub white-is : whiteNumbered white ≡ W.Is in-white
+  pub in_white : White
+  pub white_is : white_numbered white ≡ W.Is in_white
   pub colours : List GridColour
   -- each cone is read and placed at its colour
-  pub placed : AllTaken (turnIn in-white) (readingsOf k xs ys zs) colours
+  pub placed : AllTaken (turn_in in_white) (readings_of k xs ys zs) colours
 
 module _ {k : Kind} {white l c : ℕ} {xs ys zs de : List Float} (d : Delivery k white l c xs ys zs de) where
   abbrev pub mean : GridColour
-  mean = meanColour d.colours
+  mean = mean_colour d.colours
 
   -- cone i, and its DE
   abbrev pub cone : (i : ℕ) → GridColour
-  cone i = get_or d.colours i noColour
+  cone i = get_or d.colours i no_colour
 
   abbrev pub DE : (i : ℕ) → ℕ
-  DE i = differenceFrom l c mean (cone i)
+  DE i = difference_from l c mean (cone i)
 
   pub record HandedBack (r : Sorted) (left : List Float) : Type 0 where
     -- the mean
@@ -74,35 +74,35 @@ module _ {k : Kind} {white l c : ℕ} {xs ys zs de : List Float} (d : Delivery k
     -- the farthest: no cone is farther, and those before it are nearer
     pub farthest-cone : r.farthest < length xs
     pub farthest-greatest : (i : ℕ) → i < length xs → DE i ≤ DE r.farthest
-    pub farthest-first : (i : ℕ) → i < r.farthest → DE i < DE r.farthest
+    pub farthest_first : (i : ℕ) → i < r.farthest → DE i < DE r.farthest
 
   -- ---- they lie on the grid
 
   pub colours-count : length d.colours ≡ length xs
   colours-count =
-      taken-length (turnIn d.in-white) d.placed ∙ readings-length k xs ys zs d.call.shape.even
+      taken-length (turn_in d.in_white) d.placed ∙ readings_length k xs ys zs d.call.shape.even
 
-  pub colours-on-grid : Every OnGrid d.colours
-  colours-on-grid = taken-on-grid d.in-white d.placed
+  pub colours_on_grid : Every OnGrid d.colours
+  colours_on_grid = taken_on_grid d.in_white d.placed
 
-  pub cone-on-grid : (i : ℕ) → i < length xs → OnGrid (cone i)
-  cone-on-grid i few = every-at colours-on-grid i noColour (rw colours-count few)
+  pub cone_on_grid : (i : ℕ) → i < length xs → OnGrid (cone i)
+  cone_on_grid i few = every_at colours_on_grid i no_colour (rw colours-count few)
 
   -- the reading of cone i is placed at its colour
   pub cone-placed :
-      (i : ℕ) → i < length xs → place d.in-white (get_or (readingsOf k xs ys zs) i noReading) ≡ At (cone i)
+      (i : ℕ) → i < length xs → place d.in_white (get_or (readings_of k xs ys zs) i no_reading) ≡ At (cone i)
   cone-placed i few =
       taken_of
-      (taken_at (turnIn d.in-white) d.placed i noReading noColour
-      (rw (readings-length k xs ys zs d.call.shape.even) few))
+      (taken_at (turn_in d.in_white) d.placed i no_reading no_colour
+      (rw (readings_length k xs ys zs d.call.shape.even) few))
 
-  pub mean-in-range : OnGrid mean
-  mean-in-range = mean-on-grid (omega (arith, colours-count, d.call.shape.some)) colours-on-grid
+  pub mean_in_range : OnGrid mean
+  mean_in_range = mean_on_grid (omega (arith, colours-count, d.call.shape.some)) colours_on_grid
 
 -- ---- what is handed back of them
 
 handed : (z : ℤ) → ∣ z ∣ ≤ 2 ^ 53 → Handed z (value_of z)
-handed z h = record { is = refl; exact = value-exact z h }
+handed z h = record { is = refl; exact = value_exact z h }
 
 -- element i of a list's image
 map_at :
@@ -116,39 +116,39 @@ module _ {k : Kind} {white l c : ℕ} {xs ys zs de : List Float} (d : Delivery k
   abbrev all : List ℕ
   all = differences l c d.colours
 
-  all-count : length all ≡ length xs
-  all-count = length-map d.colours (differenceFrom l c (mean d)) ∙ colours-count d
+  all_count : length all ≡ length xs
+  all_count = length-map d.colours (difference_from l c (mean d)) ∙ colours-count d
 
-  all-at : (i : ℕ) → i < length xs → get_or all i 0 ≡ DE d i
-  all-at i few = map_at (differenceFrom l c (mean d)) d.colours i noColour 0 (rw (colours-count d) few)
+  all_at : (i : ℕ) → i < length xs → get_or all i 0 ≡ DE d i
+  all_at i few = map_at (difference_from l c (mean d)) d.colours i no_colour 0 (rw (colours-count d) few)
 
   entries : (i : ℕ) → i < length xs → get_or (written (figures l c d.colours) de) i zero ≡ value_of (pos (DE d i))
   entries i few =
-      let within : i < length all = rw all-count few in
+      let within : i < length all = rw all_count few in
       get_or-append (figures l c d.colours) _ zero i
       (rw (length-map all (λ (n : ℕ). value_of (pos n))) within)
       ∙ map_at (λ (n : ℕ). value_of (pos n)) all i 0 zero within
-      ∙ ap (λ (n : ℕ). value_of (pos n)) (all-at i few)
+      ∙ ap (λ (n : ℕ). value_of (pos n)) (all_at i few)
 
   DE-handed : (i : ℕ) → i < length xs → Handed (pos (DE d i)) (value_of (pos (DE d i)))
   DE-handed i few =
       handed (pos (DE d i))
       (omega
-      (arith, difference-lt d.call.lightness d.call.chroma (mean-in-range d) (cone-on-grid d i few)))
+      (arith, difference-lt d.call.lightness d.call.chroma (mean_in_range d) (cone_on_grid d i few)))
 
   far : IsFarthest all (farthest all)
-  far = farthest-is all (rw all-count (omega (arith, d.call.shape.some)))
+  far = farthest_is all (rw all_count (omega (arith, d.call.shape.some)))
 
   far_within : (farthest all).at < length xs
-  far_within = rw (sym all-count) far.within
+  far_within = rw (sym all_count) far.within
 
   most : DE d (farthest all).at ≡ (farthest all).most
-  most = sym (all-at (farthest all).at far_within) ∙ far.is
+  most = sym (all_at (farthest all).at far_within) ∙ far.is
 
-  handed-back : HandedBack d (sortedOf l c d.colours) (written (figures l c d.colours) de)
-  unfolding sortedOf
-  handed-back =
-      let M = mean-in-range d in
+  handed_back : HandedBack d (sorted_of l c d.colours) (written (figures l c d.colours) de)
+  unfolding sorted_of
+  handed_back =
+      let M = mean_in_range d in
       record {
         lightness = handed (mean d).L.0 (omega (arith, M.L));
         a = handed (mean d).a.0 (omega (arith, M.a));
@@ -157,54 +157,54 @@ module _ {k : Kind} {white l c : ℕ} {xs ys zs de : List Float} (d : Delivery k
         entry = λ i few. rw (entries i few) (DE-handed i few);
         rest =
             subst (λ (n : ℕ). drop n (written (figures l c d.colours) de) ≡ drop n de)
-            (length-map all (λ (n : ℕ). value_of (pos n)) ∙ all-count)
+            (length-map all (λ (n : ℕ). value_of (pos n)) ∙ all_count)
             (drop-append_seam (figures l c d.colours) _);
         farthest-cone = far_within;
-        farthest-greatest = λ i few. rw (most, sym (all-at i few)) (far.greatest i (rw all-count few));
-        farthest-first =
-            λ i before. rw (most, sym (all-at i (omega (arith, far_within)))) (far.first i before);
+        farthest-greatest = λ i few. rw (most, sym (all_at i few)) (far.greatest i (rw all_count few));
+        farthest_first =
+            λ i before. rw (most, sym (all_at i (omega (arith, far_within)))) (far.first i before);
       }
 
 -- ---- of every accepted sort
 
 module _ (k : Kind) (white l c : ℕ) (xs ys zs de : List Float) where
-  abbrev Comes-back : Sorted → List Float → Type 0
-  Comes-back s left = (d : Delivery k white l c xs ys zs de) × HandedBack d s left
+  abbrev Comes_back : Sorted → List Float → Type 0
+  Comes_back s left = (d : Delivery k white l c xs ys zs de) × HandedBack d s left
 
-  whole-handed :
-      (w : White) → whiteNumbered white ≡ W.Is w → CallIn l c xs ys zs de → (t : Turns GridColour) →
-      conesIn w (readingsOf k xs ys zs) ≡ t → number_of t ≡ 0 → Comes-back (answer_of l c t) (leftIn l c de t)
-  whole-handed w e call (whole cs) is none =
+  whole_handed :
+      (w : White) → white_numbered white ≡ W.Is w → CallIn l c xs ys zs de → (t : Turns GridColour) →
+      cones_in w (readings_of k xs ys zs) ≡ t → number_of t ≡ 0 → Comes_back (answer_of l c t) (left_in l c de t)
+  whole_handed w e call (whole cs) is none =
       let d : Delivery k white l c xs ys zs de =
       record {
         call = call;
-        in-white = w;
-        white-is = e;
+        in_white = w;
+        white_is = e;
         colours = cs;
-        placed = (whole-exactly (turnIn w) noReading (readingsOf k xs ys zs) cs).0 is;
+        placed = (whole_exactly (turn_in w) no_reading (readings_of k xs ys zs) cs).0 is;
       } in
-      (d, handed-back d)
-  whole-handed w e call (refused n i) is none =
-      absurd (⊎_elim (λ h. omega arith) (⊎_elim (λ h. omega arith) (λ h. omega arith)) (cone-refused-by w _ is))
+      (d, handed_back d)
+  whole_handed w e call (refused n i) is none =
+      absurd (⊎_elim (λ h. omega arith) (⊎_elim (λ h. omega arith) (λ h. omega arith)) (cone_refused_by w _ is))
 
   -- THE SHEET'S, DIGIT FOR DIGIT
-  pub sorted-by-the-sheet :
+  pub sorted_by_the_sheet :
       {r : Sorted} {left : List Float} → Sorts k white l c xs ys zs de r left → r.number ≡ 0 →
       (d : Delivery k white l c xs ys zs de) × HandedBack d r left
-  sorted-by-the-sheet g zero_number =
+  sorted_by_the_sheet g zero_number =
       rw (g.answer, g.left)
-      (go (delivered (isShaped xs ys zs (length de)) white l c rs)
-      (comes (isShaped xs ys zs (length de)) white l c rs)
-      (sym (answer-number l c (delivered (isShaped xs ys zs (length de)) white l c rs))
+      (go (delivered (is_shaped xs ys zs (length de)) white l c rs)
+      (comes (is_shaped xs ys zs (length de)) white l c rs)
+      (sym (answer-number l c (delivered (is_shaped xs ys zs (length de)) white l c rs))
       ∙ sym (ap (λ (a : Sorted). a.number) g.answer) ∙ zero_number))
     where
       rs : List Reading
-      rs = readingsOf k xs ys zs
+      rs = readings_of k xs ys zs
 
       go :
-          (t : Turns GridColour) → Comes (isShaped xs ys zs (length de)) white l c rs t → number_of t ≡ 0 →
-          Comes-back (answer_of l c t) (leftIn l c de t)
+          (t : Turns GridColour) → Comes (is_shaped xs ys zs (length de)) white l c rs t → number_of t ≡ 0 →
+          Comes_back (answer_of l c t) (left_in l c de t)
       go t (wrong-count h) none = absurd (omega arith)
-      go t (no-white h e) none = absurd (omega arith)
+      go t (no_white_lem h e) none = absurd (omega arith)
       go t (wrong-factor h w e f) none = absurd (omega arith)
-      go t (cones h w e f) none = whole-handed w e (call-in xs ys zs de h f) (conesIn w rs) refl none
+      go t (cones h w e f) none = whole_handed w e (call_in xs ys zs de h f) (cones_in w rs) refl none

@@ -2,33 +2,33 @@
 use Rattle.std.specs.Prelude.{List, ◌∷◌, ◌≡◌, refl, ℕ}
 use Rattle.std.proofs.Common.{sym, ap, ◌∙◌}
 use Rattle.text.specs.Put.{put_at}
-use Rattle.report.specs.Report.{reportText}
-use Rattle.standard.specs.Refusals.{Fault, number_at, refusal, atRoom}
-use Rattle.standard.specs.Refusals.Laws.{first-none, refusal-room}
+use Rattle.report.specs.Report.{report_text}
+use Rattle.standard.specs.Refusals.{Fault, number_at, refusal, at_room}
+use Rattle.standard.specs.Refusals.Laws.{first_none, refusal-room}
 use Rattle.standard.specs.Judgement.{number_of}
 use Rattle.standard.specs.declared.judge.Judgement.{Judgement}
 use Rattle.standard.specs.declared.judge.Outcome.{Outcome}
 use Rattle.standard.specs.declared.judge.Outcome.TheVariants.{Refused, Judged}
-use Rattle.calls.specs.Calls.{roomFault, withReport, writing}
+use Rattle.calls.specs.Calls.{room_fault, with_report, writing}
 
 -- o came to a judgement, and the room is left with its report from the column on, every other byte as it was
 pub record Reported (o : Outcome) (room : List ℕ) (column : ℕ) (left : List ℕ) : Type 0 where
   pub judgement : Judgement
   pub judged : o ≡ Judged judgement
-  pub written : left ≡ put_at room column (reportText judgement)
+  pub written : left ≡ put_at room column (report_text judgement)
 
 -- with no fault, and none of the room, something was judged
-module _ (fs : List Fault) (o : Outcome) (number : number_of o ≡ refusal fs) (last : number_at fs atRoom ≡ 0) where
+module _ (fs : List Fault) (o : Outcome) (number : number_of o ≡ refusal fs) (last : number_at fs at_room ≡ 0) where
   pub reported :
       ((m : ℕ) → o ≡ Refused m → m ≡ 0 → ⊥) → (room : List ℕ) (column : ℕ) →
-      refusal (roomFault o room column ∷ fs) ≡ 0 →
+      refusal (room_fault o room column ∷ fs) ≡ 0 →
       Reported o room column
-      (writing (refusal (roomFault o room column ∷ fs)) (withReport o room column) room).bytes
+      (writing (refusal (room_fault o room column ∷ fs)) (with_report o room column) room).bytes
   reported some room column none = rw none (go o refl)
     where
       before : number_of o ≡ 0
-      before = number ∙ (first-none (refusal fs) _ (sym (refusal-room fs _ last) ∙ none)).0
+      before = number ∙ (first_none (refusal fs) _ (sym (refusal-room fs _ last) ∙ none)).0
 
-      go : (q : Outcome) → o ≡ q → Reported o room column (withReport o room column)
+      go : (q : Outcome) → o ≡ q → Reported o room column (with_report o room column)
       go (Refused m) e = absurd (some m e (sym (ap number_of e) ∙ before))
       go (Judged j) e = record { judgement = j; judged = e; written = rw e }

@@ -8,9 +8,9 @@ use Rattle.rounding.specs.Signed.{∣◌∣}
 use Rattle.colour.specs.declared.conversion.GridColour.{GridColour}
 use Rattle.sheet.specs.Settings.{Factor}
 use Rattle.sheet.specs.Ranges.{SemiAxesInRange, Moved, InRange}
-use Rattle.sheet.specs.Sheet.{component, componentH, total, semiAxesCIELAB, semiAxes, differences, sheet}
-use Rattle.sheet.specs.Sheet.Bounds.{semi-axes-of-grid, shift-of-grid, components-fit, total-lt}
-use Rattle.sheet.specs.Sheet.Laws.{abs-component, abs-componentH}
+use Rattle.sheet.specs.Sheet.{component, component_h, total, semi_axes_cielab, semi_axes, differences, sheet}
+use Rattle.sheet.specs.Sheet.Bounds.{semi_axes_of_grid, shift_of_grid, components-fit, total-lt}
+use Rattle.sheet.specs.Sheet.Laws.{abs-component, abs-component_h}
 use Rattle.sheet.specs.declared.semi_axes.SemiAxes.{SemiAxes}
 use Rattle.sheet.specs.declared.shift.Shift.{Shift}
 use Rattle.sheet.specs.declared.formula.Formula.{Formula}
@@ -19,8 +19,8 @@ use Rattle.lines.specs.Lines.Longest.{Under}
 use Rattle.report.specs.Report.Longest.{UnderCielab, UnderFactors, Figures}
 
 -- what is below so many ones is below one more by one at least, as `Under` asks
-under-of-lt : (ones : ℕ) {x : ℕ} → x < ones * 2 ^ 20 → Under (ones + 1) x
-under-of-lt ones h = omega (arith, h)
+under_of_lt : (ones : ℕ) {x : ℕ} → x < ones * 2 ^ 20 → Under (ones + 1) x
+under_of_lt ones h = omega (arith, h)
 
 -- ---- line 8, below a number of ones: the shift is at most m, and what it is divided by at least e
 
@@ -30,9 +30,9 @@ module _ (ones m e : ℕ) (some : 0 < e) where
   component-lt l S Δ h g most =
       rw abs-component (div-lt _ (l * S) (ones * 2 ^ 20) (omega arith) (omega (arith, mul-le-mul_left ones g)))
 
-  componentH-lt : (S : ℕ) (Δ : ℤ) → ∣ Δ ∣ ≤ m → e ≤ S → m < ones * e → ∣ componentH 20 S Δ ∣ < ones * 2 ^ 20
-  componentH-lt S Δ h g most =
-      rw abs-componentH (div-lt _ S (ones * 2 ^ 20) (omega arith) (omega (arith, mul-le-mul_left ones g)))
+  component_h-lt : (S : ℕ) (Δ : ℤ) → ∣ Δ ∣ ≤ m → e ≤ S → m < ones * e → ∣ component_h 20 S Δ ∣ < ones * 2 ^ 20
+  component_h-lt S Δ h g most =
+      rw abs-component_h (div-lt _ S (ones * 2 ^ 20) (omega arith) (omega (arith, mul-le-mul_left ones g)))
 
 -- under CIELAB: ΔL is at most 120, ΔC at most 512, ΔH below 725
 under-cielab :
@@ -44,10 +44,10 @@ under-cielab C {Δ} h =
     let DL =
     component-lt 121 (120 * 2 ^ 20) one (omega arith) 1000 (2 ^ 20) Δ.L h.L (omega arith) (omega arith) in
     let DC = component-lt 513 (2 ^ 29) one (omega arith) 1000 (2 ^ 20) Δ.C h.C (omega arith) (omega arith) in
-    let DH = componentH-lt 725 759250125 (2 ^ 20) (omega arith) (2 ^ 20) Δ.H h.H (omega arith) (omega arith) in
+    let DH = component_h-lt 725 759250125 (2 ^ 20) (omega arith) (2 ^ 20) Δ.H h.H (omega arith) (omega arith) in
     record {
       DE =
-          under-of-lt 999
+          under_of_lt 999
           (root-lt 2 _ (999 * 2 ^ 20) (omega arith)
           (omega (arith, mul-le-mul DL DL, mul-le-mul DC DC, mul-le-mul DH DH)));
       DL = omega arith;
@@ -56,33 +56,33 @@ under-cielab C {Δ} h =
     }
 
 -- under CIE94 and CMC: SL is at least 0.511 and SC at least 0.638
-under-factors :
+under_factors :
     {l c : ℕ} {S : SemiAxes} {Δ : Shift} → Factor l → Factor c → SemiAxesInRange S → Moved Δ →
     UnderFactors l c (differences 20 l c S Δ)
 unfolding differences
-under-factors {Δ = Δ} hl hc s m =
+under_factors {Δ = Δ} hl hc s m =
     let p = components-fit hl hc s m in
     record {
       DE = omega (arith, total-lt p);
       DL = omega arith;
-      DL-at-ten =
-          λ e. under-of-lt 99
+      DL_at_ten =
+          λ e. under_of_lt 99
           (component-lt 99 (120 * 2 ^ 20) (10000 * 535822) (omega arith) _ _ Δ.L m.L
           (rw e (omega (arith, s.SL))) (omega arith));
       DC = omega arith;
-      DC-at-ten =
-          λ e. under-of-lt 99
+      DC_at_ten =
+          λ e. under_of_lt 99
           (component-lt 99 (2 ^ 29) (10000 * 668991) (omega arith) _ _ Δ.C m.C (rw e (omega (arith, s.SC)))
           (omega arith));
       DH = omega arith;
     }
 
 pub sheet-figures : (f : Formula) {l c : ℕ} {R T : GridColour} → InRange l c R T → Figures f l c (sheet 20 f l c R T)
-unfolding sheet semiAxes semiAxesCIELAB
-sheet-figures CIELAB h = under-cielab _ (shift-of-grid h.reference h.specimen)
+unfolding sheet semi_axes semi_axes_cielab
+sheet-figures CIELAB h = under-cielab _ (shift_of_grid h.reference h.specimen)
 sheet-figures CIE94 h =
-    under-factors h.lightness h.chroma (semi-axes-of-grid CIE94 h.reference)
-    (shift-of-grid h.reference h.specimen)
+    under_factors h.lightness h.chroma (semi_axes_of_grid CIE94 h.reference)
+    (shift_of_grid h.reference h.specimen)
 sheet-figures CMC h =
-    under-factors h.lightness h.chroma (semi-axes-of-grid CMC h.reference)
-    (shift-of-grid h.reference h.specimen)
+    under_factors h.lightness h.chroma (semi_axes_of_grid CMC h.reference)
+    (shift_of_grid h.reference h.specimen)

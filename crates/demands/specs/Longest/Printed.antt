@@ -3,32 +3,32 @@
 use Rattle.std.specs.Prelude.{◌≡◌, refl, List, ℕ, ◌≤◌, length}
 use Rattle.std.proofs.Common.{◌∙◌, arith, le-leb}
 use Rattle.text.specs.Put.{put_at}
-use Rattle.text.specs.Decimal.{wholeText}
-use Rattle.text.specs.Decimal.Laws.{last-digits-length, width_few}
-use Rattle.ticket.specs.Ticket.{ticketOf}
+use Rattle.text.specs.Decimal.{whole_text}
+use Rattle.text.specs.Decimal.Laws.{last_digits_length, width_few}
+use Rattle.ticket.specs.Ticket.{ticket_of}
 use Rattle.standard.specs.declared.judge.Outcome.{Outcome}
 use Rattle.standard.specs.declared.judge.Outcome.TheVariants.{Refused, Judged}
-use Rattle.calls.specs.Outcome.{ticketOutcome}
-use Rattle.printing.specs.Printed.{line_of, outcomeText, printedText, Prints}
+use Rattle.calls.specs.Outcome.{ticket_outcome}
+use Rattle.printing.specs.Printed.{line_of, outcome_text, printed_text, Prints}
 use Rattle.printing.specs.Printed.Laws.{refusal-length}
 use Rattle.demands.specs.Longest.{Short, ticket-short}
 
-whole-length-le : (n : ℕ) → length (wholeText n) ≤ 21
-whole-length-le n = rw last-digits-length (width_few n)
+whole_length_le : (n : ℕ) → length (whole_text n) ≤ 21
+whole_length_le n = rw last_digits_length (width_few n)
 
-outcome-length-le : (o : Outcome) (line : ℕ) → Short o → length (outcomeText o line) ≤ 161
-outcome-length-le (Refused n) line short = omega (arith, refusal-length n line, whole-length-le n, whole-length-le line)
+outcome-length-le : (o : Outcome) (line : ℕ) → Short o → length (outcome_text o line) ≤ 161
+outcome-length-le (Refused n) line short = omega (arith, refusal-length n line, whole_length_le n, whole_length_le line)
 outcome-length-le (Judged j) line short = short j refl
 
 module _ (text : List ℕ) where
-  pub printed-length-le : length (printedText text) ≤ 161
-  unfolding printedText
+  pub printed-length-le : length (printed_text text) ≤ 161
+  unfolding printed_text
   printed-length-le =
-      outcome-length-le (ticketOutcome (ticketOf text)) (line_of (ticketOf text)) (ticket-short (ticketOf text))
+      outcome-length-le (ticket_outcome (ticket_of text)) (line_of (ticket_of text)) (ticket-short (ticket_of text))
 
-  pub all-is-printed :
-      {before after : List ℕ} {n : ℕ} → 161 ≤ length before → Prints before (printedText text) n after →
-      (n ≡ length (printedText text)) × (after ≡ put_at before 0 (printedText text))
-  all-is-printed {before} room p =
-      let enough = le-leb (length (printedText text)) (length before) (omega (arith, printed-length-le)) in
+  pub all_is_printed :
+      {before after : List ℕ} {n : ℕ} → 161 ≤ length before → Prints before (printed_text text) n after →
+      (n ≡ length (printed_text text)) × (after ≡ put_at before 0 (printed_text text))
+  all_is_printed {before} room p =
+      let enough = le-leb (length (printed_text text)) (length before) (omega (arith, printed-length-le)) in
       (p.count ∙ rw enough, p.bytes ∙ rw enough)

@@ -2,30 +2,30 @@
 -- there are fewer. Assumes nothing.
 use Rattle.std.specs.Prelude.{◌≡◌, refl, List, [], ◌∷◌, ℕ, ◌+◌, ◌^◌, ◌<◌, ℤ, pos, neg_ℤ, length}
 use Rattle.std.proofs.Common.{sym, ◌∙◌, arith, rules}
-use Rattle.rounding.specs.Root.{rootOf}
+use Rattle.rounding.specs.Root.{root_of}
 use Rattle.rounding.specs.Signed.{◌·◌, ◌÷◌}
-use Rattle.colour.specs.Conversion.{atPlaces}
+use Rattle.colour.specs.Conversion.{at_places}
 use Rattle.colour.specs.declared.conversion.GridColour.{GridColour}
 use Rattle.colour.specs.declared.white.White.TheVariants.{D65Ten}
-use Rattle.sheet.specs.Sheet.{chroma, distance², cross, dot, sameHue, hueChange, component, componentH, total}
-use Rattle.sheet.specs.Sheet.{semiAxesCIELAB}
-use Rattle.sheet.specs.Sheet.{semiAxes, shift, differences, sheet, comparison, compared, verdictOn}
+use Rattle.sheet.specs.Sheet.{chroma, distance², cross, dot, same_hue, hue_change, component, component_h, total}
+use Rattle.sheet.specs.Sheet.{semi_axes_cielab}
+use Rattle.sheet.specs.Sheet.{semi_axes, shift, differences, sheet, comparison, compared, verdict_on}
 use Rattle.sheet.specs.declared.formula.Formula.TheVariants.{CIELAB}
-use Rattle.names.specs.Names.{met, firstMet, hueNamed, hueName}
+use Rattle.names.specs.Names.{met, first_met, hue_named, hue_name}
 use Rattle.text.specs.Ascii.{ascii}
 use Rattle.text.specs.Put.{joined, line}
-use Rattle.text.specs.Decimal.{shown, lastDigits, width_in, decimalText}
-use Rattle.report.specs.Report.{settingLines, figureLines, wordLines, reportText}
-use Rattle.report.specs.Write.Laws.{write-number-ten}
-use Rattle.standard.specs.Judgement.{judgementOf, outcome, Specimen}
+use Rattle.text.specs.Decimal.{shown, last_digits, width_in, decimal_text}
+use Rattle.report.specs.Report.{setting_lines, figure_lines, word_lines, report_text}
+use Rattle.report.specs.Write.Laws.{write_number_ten}
+use Rattle.standard.specs.Judgement.{judgement_of, outcome, Specimen}
 use Rattle.standard.specs.declared.accept.Standard.{Standard}
 use Rattle.standard.specs.declared.judge.Outcome.TheVariants.{Judged}
 use Rattle.station.specs.Record.{encode, decode}
 use Rattle.station.specs.Record.Back.{decode-encode}
-use Rattle.calls.specs.Outcome.{judgedBy}
-use Rattle.calls.specs.Calls.{judgeCall}
-use Rattle.calls.specs.Calls.Every.{asLab, place-back}
-use Rattle.calls.specs.Calls.Laws.{reported-judged, judge-call-gives}
+use Rattle.calls.specs.Outcome.{judged_by}
+use Rattle.calls.specs.Calls.{judge_call}
+use Rattle.calls.specs.Calls.Every.{as_lab, place_back}
+use Rattle.calls.specs.Calls.Laws.{reported-judged, judge_call_gives}
 
 -- a colour by whole L*, a*, b*
 abbrev lab : (L a b : ℤ) → GridColour
@@ -45,7 +45,7 @@ test = lab (pos 0) (neg_ℤ (pos 100)) (pos 100)
 pub record Reached : Type 0 where
   pub asked : Specimen standard test
   pub written :
-      reportText (judgementOf standard test)
+      report_text (judgement_of standard test)
       ≡ joined
       (ascii "formula=CIELAB\n"
       ∷ ascii "white=D65/10\n"
@@ -60,28 +60,28 @@ pub record Reached : Type 0 where
       ∷ ascii "hue=greener(yellower)\n"
       ∷ ascii "verdict=fail\n"
       ∷ [])
-  pub bytes : length (reportText (judgementOf standard test)) ≡ 161
+  pub bytes : length (report_text (judgement_of standard test)) ≡ 161
 
 pub reached : Reached
-unfolding rootOf ◌÷◌ atPlaces chroma distance² cross dot sameHue hueChange component componentH total semiAxesCIELAB
-    semiAxes shift differences sheet
-    comparison compared verdictOn met firstMet hueNamed hueName shown lastDigits width_in decimalText line settingLines
-    figureLines wordLines reportText
-    judgementOf
+unfolding root_of ◌÷◌ at_places chroma distance² cross dot same_hue hue_change component component_h total semi_axes_cielab
+    semi_axes shift differences sheet
+    comparison compared verdict_on met first_met hue_named hue_name shown last_digits width_in decimal_text line setting_lines
+    figure_lines word_lines report_text
+    judgement_of
 reached = record { asked = search rules; written = refl; bytes = refl }
 
 -- ---- NO LESS ROOM IS ENOUGH: with this standard loaded, the test specimen is refused in every room of fewer bytes
 -- from the column on
 
-test-judged : judgedBy (decode (encode standard)) (asLab test) ≡ Judged (judgementOf standard test)
-unfolding judgedBy outcome
-test-judged = rw (decode-encode standard reached.asked.standard, place-back D65Ten test reached.asked.test)
+test-judged : judged_by (decode (encode standard)) (as_lab test) ≡ Judged (judgement_of standard test)
+unfolding judged_by outcome
+test-judged = rw (decode-encode standard reached.asked.standard, place_back D65Ten test reached.asked.test)
 
-pub no-less-room :
+pub no_less_room :
     (room : List ℕ) (column : ℕ) → length room < column + 161 →
-    (judgeCall (encode standard) (asLab test) room column).number ≡ 10
-no-less-room room column less =
+    (judge_call (encode standard) (as_lab test) room column).number ≡ 10
+no_less_room room column less =
     let given =
-    judge-call-gives (asLab test) room column (encode standard) (sym test-judged)
+    judge_call_gives (as_lab test) room column (encode standard) (sym test-judged)
     (reported-judged room column refl refl refl) in
-    sym given.number ∙ write-number-ten room column (judgementOf standard test) (omega (arith, reached.bytes))
+    sym given.number ∙ write_number_ten room column (judgement_of standard test) (omega (arith, reached.bytes))

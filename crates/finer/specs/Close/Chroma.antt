@@ -3,7 +3,7 @@
 use Rattle.std.specs.Prelude.{◌≡◌, ◌⊎◌, ℕ, ◌+◌, ◌*◌, ◌≤◌, ◌<◌}
 use Rattle.std.proofs.Common.{inl, inr, mul-le-mul_right, arith}
 use Rattle.std.proofs.Math.Decide.{dec_lt}
-use Rattle.rounding.specs.Fraction.{LooseFraction, two-fractions-lt, cross-fractions-lt}
+use Rattle.rounding.specs.Fraction.{LooseFraction, two_fractions_lt, cross_fractions_lt}
 use Rattle.finer.specs.Loose.{unit}
 
 -- 3.2: ΔC, the distance of CR and CT
@@ -30,8 +30,8 @@ module _ (K N L SL1 SL2 : ℕ) where
   SL-le dark1 light1 dark2 light2 = either (dec_lt L (16 * N))
     where
       either : Dec (L < 16 * N) → SL1 < SL2 + K
-      either (yes h) = two-fractions-lt (dark1 h) (dark2 h)
-      either (no f) = let h : 16 * N ≤ L = omega arith in two-fractions-lt (light1 h) (light2 h)
+      either (yes h) = two_fractions_lt (dark1 h) (dark2 h)
+      either (no f) = let h : 16 * N ≤ L = omega arith in two_fractions_lt (light1 h) (light2 h)
 
 -- 3.4: SC grows with C at most as fast as C, so it adds one K of its own
 pub SC-le :
@@ -39,8 +39,8 @@ pub SC-le :
     LooseFraction K ((638 * C1 * 1000 + (10000 * N + 131 * C1) * 638) * N) ((10000 * N + 131 * C1) * 1000) SC1 →
     LooseFraction K ((638 * C2 * 1000 + (10000 * N + 131 * C2) * 638) * N) ((10000 * N + 131 * C2) * 1000) SC2 →
     SC1 < SC2 + K + K
-SC-le K N C1 C2 near h g = cross-fractions-lt K h g (omega (arith, mul-le-mul_right (N * N) near))
+SC-le K N C1 C2 near h g = cross_fractions_lt K h g (omega (arith, mul-le-mul_right (N * N) near))
 
 -- a semi-axis of at least 1/2 that is 2 K off is off by less than a ten-thousandth
-pub ratio-le : (K x y : ℕ) → x ≤ y + 2 * K → unit K ≤ 2 * y → 10000 * x ≤ 10001 * y
-ratio-le K x y near low = omega arith
+pub ratio_le : (K x y : ℕ) → x ≤ y + 2 * K → unit K ≤ 2 * y → 10000 * x ≤ 10001 * y
+ratio_le K x y near low = omega arith

@@ -3,14 +3,14 @@
 -- formula, of all that were met. No proof cites this. Assumes nothing.
 use Rattle.std.specs.Prelude.{◌≡◌, refl, ℕ, ◌-◌, ◌*◌, ◌^◌, ◌≤◌, ◌<◌, ℤ, pos, neg_ℤ}
 use Rattle.std.proofs.Common.{arith, rules}
-use Rattle.rounding.specs.Root.{rootOf}
+use Rattle.rounding.specs.Root.{root_of}
 use Rattle.rounding.specs.Signed.{◌÷◌}
 use Rattle.colour.specs.declared.conversion.GridColour.{GridColour}
-use Rattle.colour.specs.Conversion.{atPlaces}
+use Rattle.colour.specs.Conversion.{at_places}
 use Rattle.sheet.specs.Ranges.{InRange}
-use Rattle.sheet.specs.Sheet.{chroma, distance², cross, dot, sameHue, hueChange, semiAxisL, semiAxisC, secondForm, hueQ}
-use Rattle.sheet.specs.Sheet.{hueW, hueF, hueM, hueT, hueP, hueG, semiAxisH, semiAxisC94, semiAxisH94, component}
-use Rattle.sheet.specs.Sheet.{componentH, total, hueSemiAxis, semiAxesCIELAB, semiAxesCIE94, semiAxesCMC, semiAxes}
+use Rattle.sheet.specs.Sheet.{chroma, distance², cross, dot, same_hue, hue_change, semi_axis_l, semi_axis_c, second_form, hue_q}
+use Rattle.sheet.specs.Sheet.{hue_w, hue_f, hue_m, hue_t, hue_p, hue_g, semi_axis_h, semi_axis_c94, semi_axis_h94, component}
+use Rattle.sheet.specs.Sheet.{component_h, total, hue_semi_axis, semi_axes_cielab, semi_axes_cie94, semi_axes_cmc, semi_axes}
 use Rattle.sheet.specs.Sheet.{shift, differences, sheet, compared, verdict}
 use Rattle.sheet.specs.declared.formula.Formula.{Formula}
 use Rattle.sheet.specs.declared.formula.Formula.TheVariants.{CIELAB, CIE94, CMC}
@@ -31,22 +31,22 @@ grey L = lab (L * 2 ^ 20) (pos 0) (pos 0)
 -- hundredths of a unit of 2 ^ -20
 pub record Met (f : Formula) (l c : ℕ) (R T : GridColour) (DE20 DE40 hundredths : ℕ) : Type 0 where
   pub ranges : InRange l c R T
-  pub at-20 : (sheet 20 f l c R T).DE ≡ DE20
-  pub at-40 : (sheet 40 f l c R T).DE ≡ DE40
+  pub at_20 : (sheet 20 f l c R T).DE ≡ DE20
+  pub at_40 : (sheet 40 f l c R T).DE ≡ DE40
   pub moved : hundredths * 2 ^ 20 ≤ 100 * apart DE40 (2 ^ (40 - 20) * DE20)
 
 pub record Sharp : Type 0 where
   -- a DE of 269.7: part 3 does not hold of it
-  pub beyond-10 :
+  pub beyond_10 :
       Met CMC 5003 10000 (lab 21216891 (pos 8021720) (pos 11462462)) (lab 24198716 (minus 268435453) (minus 268434754))
       282840964 296577866283831 227011
-  pub over-10 : 10 * 2 ^ 20 < 282840964
-  pub by-0-002 : 2 * 2 ^ 40 ≤ 1000 * apart 296577866283831 (2 ^ (40 - 20) * 282840964)
+  pub over_10 : 10 * 2 ^ 20 < 282840964
+  pub by_0_002 : 2 * 2 ^ 40 ≤ 1000 * apart 296577866283831 (2 ^ (40 - 20) * 282840964)
   -- DE up to 10: part 3 does not hold with 0.00008
   pub cmc :
       Met CMC 7208 9963 (lab 53482592 (pos 7319696) (pos 10554335)) (lab 52956196 (pos 29601456) (pos 26698326))
       10459267 10967242110126 8987
-  pub by-0-00008 : 8 * 2 ^ 40 ≤ 100000 * apart 10967242110126 (2 ^ (40 - 20) * 10459267)
+  pub by_0_00008 : 8 * 2 ^ 40 ≤ 100000 * apart 10967242110126 (2 ^ (40 - 20) * 10459267)
   pub cie94 :
       Met CIE94 9327 10000 (lab 11529445 (minus 44) (pos 0)) (lab 8482314 (pos 42824352) (pos 95463153))
       10468572 10977072848477 1955
@@ -56,20 +56,20 @@ pub record Sharp : Type 0 where
       7236027 7587526344561 199
   -- the grid has 20 places: at 19 its numbers would mean colours twice as far apart, and a pass is lost
   pub passed : verdict 20 1500 (sheet 20 CIELAB 1000 1000 (grey 50) (grey 51)).DE ≡ Pass
-  pub lost-at-19 : 1500 * 2 ^ 19 ≤ 1000 * (sheet 19 CIELAB 1000 1000 (grey 50) (grey 51)).DE
+  pub lost_at_19 : 1500 * 2 ^ 19 ≤ 1000 * (sheet 19 CIELAB 1000 1000 (grey 50) (grey 51)).DE
 
 pub sharp : Sharp
-unfolding rootOf ◌÷◌ chroma distance² cross dot sameHue hueChange semiAxisL semiAxisC secondForm hueQ hueW hueF hueM
-    hueT hueP hueG semiAxisH semiAxisC94 semiAxisH94 component componentH total hueSemiAxis semiAxesCIELAB
-    semiAxesCIE94 semiAxesCMC semiAxes shift differences sheet atPlaces compared verdict
+unfolding root_of ◌÷◌ chroma distance² cross dot same_hue hue_change semi_axis_l semi_axis_c second_form hue_q hue_w hue_f hue_m
+    hue_t hue_p hue_g semi_axis_h semi_axis_c94 semi_axis_h94 component component_h total hue_semi_axis semi_axes_cielab
+    semi_axes_cie94 semi_axes_cmc semi_axes shift differences sheet at_places compared verdict
 sharp = record {
-  beyond-10 = record { ranges = search rules; at-20 = refl; at-40 = refl; moved = omega arith };
-  over-10 = omega arith;
-  by-0-002 = omega arith;
-  cmc = record { ranges = search rules; at-20 = refl; at-40 = refl; moved = omega arith };
-  by-0-00008 = omega arith;
-  cie94 = record { ranges = search rules; at-20 = refl; at-40 = refl; moved = omega arith };
-  cielab = record { ranges = search rules; at-20 = refl; at-40 = refl; moved = omega arith };
+  beyond_10 = record { ranges = search rules; at_20 = refl; at_40 = refl; moved = omega arith };
+  over_10 = omega arith;
+  by_0_002 = omega arith;
+  cmc = record { ranges = search rules; at_20 = refl; at_40 = refl; moved = omega arith };
+  by_0_00008 = omega arith;
+  cie94 = record { ranges = search rules; at_20 = refl; at_40 = refl; moved = omega arith };
+  cielab = record { ranges = search rules; at_20 = refl; at_40 = refl; moved = omega arith };
   passed = refl;
-  lost-at-19 = omega arith;
+  lost_at_19 = omega arith;
 }

@@ -7,59 +7,59 @@ use Rattle.std.proofs.Common.{inl, inr, mul-le-mul_left, le_trans, arith, pow_po
 use Prim.Native.Nat.{ℕ, ◌+◌, ◌-◌, ◌*◌, ◌^◌, ◌≤◌, ◌<◌}
 use Rattle.std.proofs.Math.Decide.{dec_le}
 use Rattle.std.proofs.Math.IntN.{ℤ}
-use Rattle.rounding.specs.Fraction.{fraction-weaken}
-use Rattle.rounding.specs.Root.Laws.{le-root, root-weaken, sq}
+use Rattle.rounding.specs.Fraction.{fraction_weaken}
+use Rattle.rounding.specs.Root.Laws.{le-root, root_weaken, sq}
 use Rattle.rounding.specs.Signed.{∣◌∣, square, ◌·◌}
 use Rattle.colour.specs.Conversion.{Lab}
 use Rattle.sheet.specs.Settings.{Factor}
-use Rattle.sheet.specs.Sheet.{chroma, chromaOf, change, sameHue, hueChange, semiAxisC, hueQ, hueW, hueF, secondForm}
-use Rattle.sheet.specs.Sheet.{hueM, hueT, hueP, hueG, semiAxesCIELAB, semiAxesCIE94, semiAxesCMC, semiAxes}
-use Rattle.sheet.specs.Sheet.Laws.{chroma-pos, le-hueW, hueW-pos, hueF-le, hueM-le, hueT-le, le-hueT, le-hueG}
-use Rattle.sheet.specs.Sheet.Laws.{hueSemiAxis-neutral, hueSemiAxis-chromatic, abs-change}
-use Rattle.sheet.specs.Sheet.Facts.{semi-axes-at-least, divisors}
+use Rattle.sheet.specs.Sheet.{chroma, chroma_of, change, same_hue, hue_change, semi_axis_c, hue_q, hue_w, hue_f, second_form}
+use Rattle.sheet.specs.Sheet.{hue_m, hue_t, hue_p, hue_g, semi_axes_cielab, semi_axes_cie94, semi_axes_cmc, semi_axes}
+use Rattle.sheet.specs.Sheet.Laws.{chroma-pos, le-hue_w, hue_w-pos, hue_f-le, hue_m-le, hue_t-le, le-hue_t, le-hue_g}
+use Rattle.sheet.specs.Sheet.Laws.{hue_semi_axis-neutral, hue_semi_axis-chromatic, abs-change}
+use Rattle.sheet.specs.Sheet.Facts.{semi_axes_at_least, divisors}
 use Rattle.sheet.specs.declared.formula.Formula.{Formula}
 use Rattle.sheet.specs.declared.formula.Formula.TheVariants.{CIELAB, CIE94, CMC}
 use Rattle.finer.specs.Loose.{Loose, LooseHue, LooseCMC, LooseSemiAxes, LooseDifferences}
 use Rattle.finer.specs.Loose.Sheets.{data_of, quantities}
-use Rattle.finer.specs.Loose.Lines.{chroma-root, hueChange-root, dark-fraction, light-fraction}
-use Rattle.finer.specs.Loose.Lines.{semiAxisC-fraction, hueQ-fraction, hueW-root, hueF-fraction, hueT-fraction}
-use Rattle.finer.specs.Loose.Lines.{hueP-fraction, hueG-sum, semiAxisH-fraction, semiAxisC94-fraction}
-use Rattle.finer.specs.Loose.Lines.{semiAxisH94-fraction, component-fraction, componentH-fraction, total-root}
+use Rattle.finer.specs.Loose.Lines.{chroma-root, hue_change-root, dark-fraction, light-fraction}
+use Rattle.finer.specs.Loose.Lines.{semi_axis_c-fraction, hue_q-fraction, hue_w-root, hue_f-fraction, hue_t-fraction}
+use Rattle.finer.specs.Loose.Lines.{hue_p-fraction, hue_g-sum, semi_axis_h-fraction, semi_axis_c94-fraction}
+use Rattle.finer.specs.Loose.Lines.{semi_axis_h94-fraction, component-fraction, component_h-fraction, total-root}
 use Rattle.finer.specs.Loose.Lines.{pow-is-coarse, pow-add-seven}
-use Rattle.finer.specs.Loose.Times.{finerBy, squares-times}
+use Rattle.finer.specs.Loose.Times.{finer_by, squares-times}
 
 -- ---- what both sheets need
 
 -- line 1: |ΔC| is the distance of the two chromas
-pub change-cases : (R T : ℕ) → (∣ change R T ∣ + R ≡ T) ⊎ (∣ change R T ∣ + T ≡ R)
-change-cases R T = either (dec_le R T)
+pub change_cases : (R T : ℕ) → (∣ change R T ∣ + R ≡ T) ⊎ (∣ change R T ∣ + T ≡ R)
+change_cases R T = either (dec_le R T)
   where
     either : Dec (R ≤ T) → (∣ change R T ∣ + R ≡ T) ⊎ (∣ change R T ∣ + T ≡ R)
     either (yes h) = inl (omega (arith, abs-change R T))
     either (no h) = inr (omega (arith, abs-change R T))
 
-pub hueChange-same : (D² : ℕ) (ΔC x y : ℤ) → sameHue x y ≡ true → ∣ hueChange D² ΔC x y ∣ ≡ 0
-unfolding hueChange
-hueChange-same D² ΔC x y h = rw h
+pub hue_change_same : (D² : ℕ) (ΔC x y : ℤ) → same_hue x y ≡ true → ∣ hue_change D² ΔC x y ∣ ≡ 0
+unfolding hue_change
+hue_change_same D² ΔC x y h = rw h
 
 -- 43² is below 1900
-pub 43-le-hueW : (n Q : ℕ) → 43 * 2 ^ (n - 7) ≤ hueW n Q
-unfolding hueW
-43-le-hueW n Q = le-root 2 _ (43 * 2 ^ (n - 7)) (omega arith) (rw sq (omega arith))
+pub 43_le_hue_w : (n Q : ℕ) → 43 * 2 ^ (n - 7) ≤ hue_w n Q
+unfolding hue_w
+43_le_hue_w n Q = le-root 2 _ (43 * 2 ^ (n - 7)) (omega arith) (rw sq (omega arith))
 
 -- 3.13: T is at least 0.36, rounded down, and G not below T
-pub 1-le-3G :
+pub 1_le_3G :
     (n : ℕ) → 20 ≤ n → (a b : ℤ) → 0 < square a + square b →
-    let F : ℕ = hueF n (hueQ n a b) (hueW n (hueQ n a b)) in
-    let T : ℕ = hueT n (secondForm a b) (hueM (secondForm a b) a b) (chroma a b) in
-    2 ^ n ≤ 3 * hueG n (hueP n F T) F
-1-le-3G n from20 a b p =
-    let s : Bool = secondForm a b in
+    let F : ℕ = hue_f n (hue_q n a b) (hue_w n (hue_q n a b)) in
+    let T : ℕ = hue_t n (second_form a b) (hue_m (second_form a b) a b) (chroma a b) in
+    2 ^ n ≤ 3 * hue_g n (hue_p n F T) F
+1_le_3G n from20 a b p =
+    let s : Bool = second_form a b in
     let some = chroma-pos a b p in
-    let T≤1 = hueT-le n (hueM s a b) (chroma a b) some s (hueM-le s a b) in
-    let T-low = le-hueT n (hueM s a b) (chroma a b) some s in
+    let T≤1 = hue_t-le n (hue_m s a b) (chroma a b) some s (hue_m-le s a b) in
+    let T-low = le-hue_t n (hue_m s a b) (chroma a b) some s in
     let unit-le : 1048576 ≤ 2 ^ n = pow_mono from20 in
-    omega (arith, le_trans T-low (le-hueG n (hueF-le n (hueQ n a b)) T≤1))
+    omega (arith, le_trans T-low (le-hue_g n (hue_f-le n (hue_q n a b)) T≤1))
 
 -- a chroma on a grid K times finer is 0 or at least K
 le-chroma-times : (K : ℕ) (a b : ℤ) → 0 < square (K · a) + square (K · b) → K ≤ chroma (K · a) (K · b)
@@ -83,95 +83,95 @@ module _ (n : ℕ) (from20 : 20 ≤ n) where
   some : 0 < K
   some = pow_pos (n - 20)
 
-  hue-loose :
-      (l c : ℕ) (R T : Lab) → 0 < square R.a + square R.b → K ≤ chromaOf R →
+  hue_loose :
+      (l c : ℕ) (R T : Lab) → 0 < square R.a + square R.b → K ≤ chroma_of R →
       LooseHue K (2 ^ n) (data_of CMC l c R T) (quantities n CMC l c R T)
-  unfolding data_of quantities semiAxes semiAxesCMC
-  hue-loose l c R T p K≤C =
+  unfolding data_of quantities semi_axes semi_axes_cmc
+  hue_loose l c R T p K≤C =
       let a : ℤ = R.a in
       let b : ℤ = R.b in
       let C : ℕ = chroma a b in
-      let Q : ℕ = hueQ n a b in
-      let W : ℕ = hueW n Q in
-      let F : ℕ = hueF n Q W in
-      let s : Bool = secondForm a b in
-      let T' : ℕ = hueT n s (hueM s a b) C in
+      let Q : ℕ = hue_q n a b in
+      let W : ℕ = hue_w n Q in
+      let F : ℕ = hue_f n Q W in
+      let s : Bool = second_form a b in
+      let T' : ℕ = hue_t n s (hue_m s a b) C in
       record {
         K≤C = K≤C;
-        Q = fraction-weaken some (rw (pow-add-seven n) at (hueQ-fraction n a b));
-        W = root-weaken some (rw (pow-is-coarse n from20) at (hueW-root n Q));
-        Q≤W = le-hueW n Q;
-        43≤W = rw (pow-is-coarse n from20) at (43-le-hueW n Q);
-        F = fraction-weaken some (hueF-fraction n Q W (hueW-pos n Q));
-        F≤1 = hueF-le n Q;
-        T = fraction-weaken some (hueT-fraction n s (hueM s a b) C (chroma-pos a b p));
-        T≤1 = hueT-le n (hueM s a b) C (chroma-pos a b p) s (hueM-le s a b);
-        P = fraction-weaken some (hueP-fraction n F T');
-        G = hueG-sum n (hueP n F T') F (hueF-le n Q);
-        1≤3G = 1-le-3G n from20 a b p;
+        Q = fraction_weaken some (rw (pow-add-seven n) at (hue_q-fraction n a b));
+        W = root_weaken some (rw (pow-is-coarse n from20) at (hue_w-root n Q));
+        Q≤W = le-hue_w n Q;
+        43≤W = rw (pow-is-coarse n from20) at (43_le_hue_w n Q);
+        F = fraction_weaken some (hue_f-fraction n Q W (hue_w-pos n Q));
+        F≤1 = hue_f-le n Q;
+        T = fraction_weaken some (hue_t-fraction n s (hue_m s a b) C (chroma-pos a b p));
+        T≤1 = hue_t-le n (hue_m s a b) C (chroma-pos a b p) s (hue_m-le s a b);
+        P = fraction_weaken some (hue_p-fraction n F T');
+        G = hue_g-sum n (hue_p n F T') F (hue_f-le n Q);
+        1≤3G = 1_le_3G n from20 a b p;
         SH =
-            rw (hueSemiAxis-chromatic n a b C (semiAxisC n C) p)
-            (fraction-weaken some (semiAxisH-fraction n (semiAxisC n C) _));
+            rw (hue_semi_axis-chromatic n a b C (semi_axis_c n C) p)
+            (fraction_weaken some (semi_axis_h-fraction n (semi_axis_c n C) _));
       }
 
-  cmc-loose :
-      (l c : ℕ) (R T : Lab) → (0 < square R.a + square R.b → K ≤ chromaOf R) →
+  cmc_loose :
+      (l c : ℕ) (R T : Lab) → (0 < square R.a + square R.b → K ≤ chroma_of R) →
       LooseCMC K (2 ^ n) (data_of CMC l c R T) (quantities n CMC l c R T)
-  unfolding data_of quantities semiAxes semiAxesCMC
-  cmc-loose l c R T K≤C =
-      let C : ℕ = chromaOf R in
+  unfolding data_of quantities semi_axes semi_axes_cmc
+  cmc_loose l c R T K≤C =
+      let C : ℕ = chroma_of R in
       record {
-        dark = λ h. fraction-weaken some (dark-fraction n R.L h);
-        light = λ h. fraction-weaken some (light-fraction n R.L h);
-        SC = fraction-weaken some (semiAxisC-fraction n C);
-        neutral = λ z. hueSemiAxis-neutral n R.a R.b C (semiAxisC n C) z;
-        chromatic = λ p. hue-loose l c R T p (K≤C p);
+        dark = λ h. fraction_weaken some (dark-fraction n R.L h);
+        light = λ h. fraction_weaken some (light-fraction n R.L h);
+        SC = fraction_weaken some (semi_axis_c-fraction n C);
+        neutral = λ z. hue_semi_axis-neutral n R.a R.b C (semi_axis_c n C) z;
+        chromatic = λ p. hue_loose l c R T p (K≤C p);
       }
 
-  semi-axes-loose :
-      (f : Formula) (l c : ℕ) (R T : Lab) → (0 < square R.a + square R.b → K ≤ chromaOf R) →
+  semi_axes_loose :
+      (f : Formula) (l c : ℕ) (R T : Lab) → (0 < square R.a + square R.b → K ≤ chroma_of R) →
       LooseSemiAxes f K (2 ^ n) (data_of f l c R T) (quantities n f l c R T)
-  unfolding quantities semiAxes semiAxesCIELAB semiAxesCIE94
-  semi-axes-loose CIELAB l c R T K≤C = record { SL = refl; SC = refl; SH = refl }
-  semi-axes-loose CIE94 l c R T K≤C = record {
+  unfolding quantities semi_axes semi_axes_cielab semi_axes_cie94
+  semi_axes_loose CIELAB l c R T K≤C = record { SL = refl; SC = refl; SH = refl }
+  semi_axes_loose CIE94 l c R T K≤C = record {
     SL = refl;
-    SC = fraction-weaken some (semiAxisC94-fraction n (chromaOf R));
-    SH = fraction-weaken some (semiAxisH94-fraction n (chromaOf R));
+    SC = fraction_weaken some (semi_axis_c94-fraction n (chroma_of R));
+    SH = fraction_weaken some (semi_axis_h94-fraction n (chroma_of R));
   }
-  semi-axes-loose CMC l c R T K≤C = cmc-loose l c R T K≤C
+  semi_axes_loose CMC l c R T K≤C = cmc_loose l c R T K≤C
 
-  differences-loose :
+  differences_loose :
       (f : Formula) {l c : ℕ} → Factor l → Factor c → (R T : Lab) →
       LooseDifferences K (2 ^ n) (data_of f l c R T) (quantities n f l c R T)
   unfolding data_of quantities
-  differences-loose f hl hc R T =
-      let low = semi-axes-at-least n from20 f R in
+  differences_loose f hl hc R T =
+      let low = semi_axes_at_least n from20 f R in
       let div = divisors n from20 f hl hc R in
       record {
-        same = λ e. hueChange-same _ _ _ _ e;
-        ΔH = λ e. root-weaken some (hueChange-root _ _ _ _ e);
+        same = λ e. hue_change_same _ _ _ _ e;
+        ΔH = λ e. root_weaken some (hue_change-root _ _ _ _ e);
         1≤2SL = low.SL;
         1≤2SC = low.SC;
         1≤7SH = low.SH;
-        DL = fraction-weaken some (component-fraction n _ _ _ div.DL);
-        DC = fraction-weaken some (component-fraction n _ _ _ div.DC);
-        DH = fraction-weaken some (componentH-fraction n _ _ div.DH);
-        DE = root-weaken some (total-root _ _ _);
+        DL = fraction_weaken some (component-fraction n _ _ _ div.DL);
+        DC = fraction_weaken some (component-fraction n _ _ _ div.DC);
+        DH = fraction_weaken some (component_h-fraction n _ _ div.DH);
+        DE = root_weaken some (total-root _ _ _);
       }
 
-  pub sheet-loose :
+  pub sheet_loose :
       (f : Formula) {l c : ℕ} → Factor l → Factor c → (R T : Lab) →
-      let R' : Lab = finerBy (2 ^ (n - 20)) R in
-      let T' : Lab = finerBy (2 ^ (n - 20)) T in
+      let R' : Lab = finer_by (2 ^ (n - 20)) R in
+      let T' : Lab = finer_by (2 ^ (n - 20)) T in
       Loose (2 ^ (n - 20)) (2 ^ n) (data_of f l c R' T') (quantities n f l c R' T')
   unfolding data_of quantities
-  sheet-loose f {l} {c} hl hc R T =
-      let R' : Lab = finerBy K R in
-      let T' : Lab = finerBy K T in
+  sheet_loose f {l} {c} hl hc R T =
+      let R' : Lab = finer_by K R in
+      let T' : Lab = finer_by K T in
       record {
-        CR = root-weaken some (chroma-root R'.a R'.b);
-        CT = root-weaken some (chroma-root T'.a T'.b);
-        ΔC = change-cases (chromaOf R') (chromaOf T');
-        semi-axes = semi-axes-loose f l c R' T' (λ p. le-chroma-times K R.a R.b p);
-        differences = differences-loose f hl hc R' T';
+        CR = root_weaken some (chroma-root R'.a R'.b);
+        CT = root_weaken some (chroma-root T'.a T'.b);
+        ΔC = change_cases (chroma_of R') (chroma_of T');
+        semi_axes_lem = semi_axes_loose f l c R' T' (λ p. le-chroma-times K R.a R.b p);
+        differences = differences_loose f hl hc R' T';
       }

@@ -3,10 +3,10 @@
 use Rattle.std.specs.Prelude.{◌≡◌, refl, Bool, ℕ, ◌+◌, ◌*◌, ℤ}
 use Rattle.rounding.specs.Signed.{∣◌∣, square}
 use Rattle.colour.specs.declared.conversion.GridColour.{GridColour}
-use Rattle.colour.specs.Conversion.{Lab, atPlaces}
-use Rattle.sheet.specs.Sheet.{chromaOf, distance², change, cross, dot, sameHue, hueChange, hueQ, hueW, hueF, secondForm}
-use Rattle.sheet.specs.Sheet.{hueM, hueT, hueP, hueG}
-use Rattle.sheet.specs.Sheet.{semiAxes, shift, factorUnder, component, componentH, total, differences, sheet}
+use Rattle.colour.specs.Conversion.{Lab, at_places}
+use Rattle.sheet.specs.Sheet.{chroma_of, distance², change, cross, dot, same_hue, hue_change, hue_q, hue_w, hue_f, second_form}
+use Rattle.sheet.specs.Sheet.{hue_m, hue_t, hue_p, hue_g}
+use Rattle.sheet.specs.Sheet.{semi_axes, shift, factor_under, component, component_h, total, differences, sheet}
 use Rattle.sheet.specs.declared.semi_axes.SemiAxes.{SemiAxes}
 use Rattle.sheet.specs.declared.formula.Formula.{Formula}
 use Rattle.finer.specs.Loose.{Data, Quantities}
@@ -15,47 +15,47 @@ use Rattle.finer.specs.Loose.{Data, Quantities}
 unfoldable pub data_of : Formula → (l c : ℕ) (R T : Lab) → Data
 data_of f l c R T = record {
   formula = f;
-  l = factorUnder f l;
-  c = factorUnder f c;
-  squareR = square R.a + square R.b;
-  squareT = square T.a + square T.b;
+  l = factor_under f l;
+  c = factor_under f c;
+  square_r = square R.a + square R.b;
+  square_t = square T.a + square T.b;
   D² = distance² R.a R.b T.a T.b;
   ΔL = ∣ change R.L T.L ∣;
   L = R.L;
-  M = hueM (secondForm R.a R.b) R.a R.b;
-  sameHue = sameHue (cross R.a R.b T.a T.b) (dot R.a R.b T.a T.b);
-  second = secondForm R.a R.b;
+  M = hue_m (second_form R.a R.b) R.a R.b;
+  same_hue = same_hue (cross R.a R.b T.a T.b) (dot R.a R.b T.a T.b);
+  second = second_form R.a R.b;
 }
 
 -- the sheet at n places of two colours in units of 2 ^ -n
 unfoldable pub quantities : (n : ℕ) → Formula → (l c : ℕ) (R T : Lab) → Quantities
 quantities n f l c R T =
-    let S : SemiAxes = semiAxes n f R in
-    let ΔC : ℤ = change (chromaOf R) (chromaOf T) in
+    let S : SemiAxes = semi_axes n f R in
+    let ΔC : ℤ = change (chroma_of R) (chroma_of T) in
     let x : ℤ = cross R.a R.b T.a T.b in
     let y : ℤ = dot R.a R.b T.a T.b in
-    let ΔH : ℤ = hueChange (distance² R.a R.b T.a T.b) ΔC x y in
-    let DL : ℤ = component n (factorUnder f l) S.SL (change R.L T.L) in
-    let DC : ℤ = component n (factorUnder f c) S.SC ΔC in
-    let DH : ℤ = componentH n S.SH ΔH in
-    let Q : ℕ = hueQ n R.a R.b in
-    let F : ℕ = hueF n Q (hueW n Q) in
-    let second : Bool = secondForm R.a R.b in
-    let T' : ℕ = hueT n second (hueM second R.a R.b) (chromaOf R) in
+    let ΔH : ℤ = hue_change (distance² R.a R.b T.a T.b) ΔC x y in
+    let DL : ℤ = component n (factor_under f l) S.SL (change R.L T.L) in
+    let DC : ℤ = component n (factor_under f c) S.SC ΔC in
+    let DH : ℤ = component_h n S.SH ΔH in
+    let Q : ℕ = hue_q n R.a R.b in
+    let F : ℕ = hue_f n Q (hue_w n Q) in
+    let second : Bool = second_form R.a R.b in
+    let T' : ℕ = hue_t n second (hue_m second R.a R.b) (chroma_of R) in
     record {
-      CR = chromaOf R;
-      CT = chromaOf T;
+      CR = chroma_of R;
+      CT = chroma_of T;
       ΔC = ∣ ΔC ∣;
       ΔH = ∣ ΔH ∣;
       SL = S.SL;
       SC = S.SC;
       SH = S.SH;
       Q = Q;
-      W = hueW n Q;
+      W = hue_w n Q;
       F = F;
       T = T';
-      P = hueP n F T';
-      G = hueG n (hueP n F T') F;
+      P = hue_p n F T';
+      G = hue_g n (hue_p n F T') F;
       DL = ∣ DL ∣;
       DC = ∣ DC ∣;
       DH = ∣ DH ∣;
@@ -65,7 +65,7 @@ quantities n f l c R T =
 -- its DE is the sheet's
 pub quantities-DE :
     (n : ℕ) (f : Formula) (l c : ℕ) (R T : GridColour) →
-    (quantities n f l c (atPlaces n R) (atPlaces n T)).DE ≡ (sheet n f l c R T).DE
+    (quantities n f l c (at_places n R) (at_places n T)).DE ≡ (sheet n f l c R T).DE
 unfolding quantities sheet differences shift
 quantities-DE n f l c R T = refl
 

@@ -7,20 +7,20 @@ use Rattle.std.proofs.Math.Bool.{true, false, ◌||◌}
 use Rattle.std.proofs.Math.Nat.{mul-sub}
 use Rattle.std.proofs.Math.IntN.{◌+ℤ◌, ◌-ℤ◌}
 use Rattle.rounding.specs.Signed.{∣◌∣, square, minus, ◌·◌}
-use Rattle.rounding.specs.Signed.Difference.{diff-same, diff-parts, diff-mul}
-use Rattle.rounding.specs.Signed.Laws.{abs-mul, mul-add-ℤ, minus-scaled, sub-scaled, abs-sub-scaled}
+use Rattle.rounding.specs.Signed.Difference.{diff_same, diff_parts, diff_mul}
+use Rattle.rounding.specs.Signed.Laws.{abs-mul, mul_add_ℤ, minus-scaled, sub-scaled, abs-sub-scaled}
 use Rattle.colour.specs.declared.conversion.GridColour.{GridColour}
-use Rattle.colour.specs.Conversion.{Lab, atPlaces}
+use Rattle.colour.specs.Conversion.{Lab, at_places}
 use Rattle.colour.specs.Conversion.Places.{units}
-use Rattle.sheet.specs.Sheet.{distance², change, cross, dot, sameHue, secondForm, hueM}
+use Rattle.sheet.specs.Sheet.{distance², change, cross, dot, same_hue, second_form, hue_m}
 
 -- a colour in a unit K times finer
-abbrev pub finerBy : (K : ℕ) → Lab → Lab
-finerBy K c = record { L = K * c.L; a = K · c.a; b = K · c.b }
+abbrev pub finer_by : (K : ℕ) → Lab → Lab
+finer_by K c = record { L = K * c.L; a = K · c.a; b = K · c.b }
 
-pub atPlaces-finerBy : (n : ℕ) (c : GridColour) → atPlaces n c ≡ finerBy (2 ^ (n - 20)) (units c)
-unfolding atPlaces
-atPlaces-finerBy n c = refl
+pub at_places-finer_by : (n : ℕ) (c : GridColour) → at_places n c ≡ finer_by (2 ^ (n - 20)) (units c)
+unfolding at_places
+at_places-finer_by n c = refl
 
 module _ (K : ℕ) where
   pub square-times : (a : ℤ) → square (K · a) ≡ K * K * square a
@@ -32,15 +32,15 @@ module _ (K : ℕ) where
   pub change-times : (R T : ℕ) → ∣ change (K * R) (K * T) ∣ ≡ K * ∣ change R T ∣
   change-times R T = abs-sub-scaled K (pos T) (pos R)
 
-  distance²-times : (aR bR aT bT : ℤ) → distance² (K · aR) (K · bR) (K · aT) (K · bT) ≡ K * K * distance² aR bR aT bT
+  distance²-times : (a_r b_r a_t b_t : ℤ) → distance² (K · a_r) (K · b_r) (K · a_t) (K · b_t) ≡ K * K * distance² a_r b_r a_t b_t
   unfolding distance²
-  distance²-times aR bR aT bT = rw (sub-scaled K aT aR, sub-scaled K bT bR) (squares-times (aT -ℤ aR) (bT -ℤ bR))
+  distance²-times a_r b_r a_t b_t = rw (sub-scaled K a_t a_r, sub-scaled K b_t b_r) (squares-times (a_t -ℤ a_r) (b_t -ℤ b_r))
 
   -- what line 2 takes the root of
-  pub excess-times :
-      (aR bR aT bT : ℤ) (m : ℕ) →
-      distance² (K · aR) (K · bR) (K · aT) (K · bT) - K * m * (K * m) ≡ K * K * (distance² aR bR aT bT - m * m)
-  excess-times aR bR aT bT m =
+  pub excess_times :
+      (a_r b_r a_t b_t : ℤ) (m : ℕ) →
+      distance² (K · a_r) (K · b_r) (K · a_t) (K · b_t) - K * m * (K * m) ≡ K * K * (distance² a_r b_r a_t b_t - m * m)
+  excess_times a_r b_r a_t b_t m =
       let same : K * m * (K * m) ≡ K * K * (m * m) = omega arith in
       rw (distance²-times, mul-sub, same)
 
@@ -48,27 +48,27 @@ module _ (K : ℕ) where
 
   mul-times : (k : ℕ) (z : ℤ) → k · (K · z) ≡ K · (k · z)
   mul-times k z =
-      let p = diff-parts (pos k) in
-      let q = diff-parts (pos K) in
-      let r = diff-parts z in
-      diff-same _ _ _ _ (omega arith) (diff-mul p (diff-mul q r)) (diff-mul q (diff-mul p r))
+      let p = diff_parts (pos k) in
+      let q = diff_parts (pos K) in
+      let r = diff_parts z in
+      diff_same _ _ _ _ (omega arith) (diff_mul p (diff_mul q r)) (diff_mul q (diff_mul p r))
 
   sum-times : (p q : ℕ) (a b : ℤ) → p · (K · a) +ℤ q · (K · b) ≡ K · (p · a +ℤ q · b)
-  sum-times p q a b = ap₂ ◌+ℤ◌ (mul-times p a) (mul-times q b) ∙ sym (mul-add-ℤ (pos K) (p · a) (q · b))
+  sum-times p q a b = ap₂ ◌+ℤ◌ (mul-times p a) (mul-times q b) ∙ sym (mul_add_ℤ (pos K) (p · a) (q · b))
 
   less-times : (p q : ℕ) (a b : ℤ) → p · (K · a) -ℤ q · (K · b) ≡ K · (p · a -ℤ q · b)
   less-times p q a b = ap₂ ◌-ℤ◌ (mul-times p a) (mul-times q b) ∙ sub-scaled K (p · a) (q · b)
 
-  pub hueM-times : (second : Bool) (a b : ℤ) → hueM second (K · a) (K · b) ≡ K * hueM second a b
-  unfolding hueM
-  hueM-times false a b =
+  pub hue_m-times : (second : Bool) (a b : ℤ) → hue_m second (K · a) (K · b) ≡ K * hue_m second a b
+  unfolding hue_m
+  hue_m-times false a b =
       ap (λ (z : ℤ). ∣ z ∣) (less-times 81915204 57357644 a b) ∙ abs-mul (pos K) (81915204 · a -ℤ 57357644 · b)
-  hueM-times true a b =
+  hue_m-times true a b =
       ap (λ (z : ℤ). ∣ z ∣) (sum-times 97814760 20791169 a b) ∙ abs-mul (pos K) (97814760 · a +ℤ 20791169 · b)
 
-  pub secondForm-times : (a b : ℤ) → 0 < K → secondForm (K · a) (K · b) ≡ secondForm a b
-  unfolding secondForm
-  secondForm-times a b some = ap₂ ◌||◌ (sum-sign 27563736 96126170) (sum-sign 25881905 96592583)
+  pub second_form-times : (a b : ℤ) → 0 < K → second_form (K · a) (K · b) ≡ second_form a b
+  unfolding second_form
+  second_form-times a b some = ap₂ ◌||◌ (sum-sign 27563736 96126170) (sum-sign 25881905 96592583)
     where
       sum-sign : (p q : ℕ) → minus (p · (K · a) +ℤ q · (K · b)) ≡ minus (p · a +ℤ q · b)
       sum-sign p q = ap minus (sum-times p q a b) ∙ minus-scaled K (p · a +ℤ q · b) some
@@ -77,21 +77,21 @@ module _ (K : ℕ) where
 
   product-times : (x y : ℤ) → (K · x) *ℤ (K · y) ≡ (K * K) · (x *ℤ y)
   product-times x y =
-      let k = diff-parts (pos K) in
-      let p = diff-parts x in
-      let q = diff-parts y in
-      let k² = diff-parts (pos (K * K)) in
-      diff-same _ _ _ _ (omega arith) (diff-mul (diff-mul k p) (diff-mul k q)) (diff-mul k² (diff-mul p q))
+      let k = diff_parts (pos K) in
+      let p = diff_parts x in
+      let q = diff_parts y in
+      let k² = diff_parts (pos (K * K)) in
+      diff_same _ _ _ _ (omega arith) (diff_mul (diff_mul k p) (diff_mul k q)) (diff_mul k² (diff_mul p q))
 
-  cross-times : (aR bR aT bT : ℤ) → cross (K · aR) (K · bR) (K · aT) (K · bT) ≡ (K * K) · cross aR bR aT bT
+  cross-times : (a_r b_r a_t b_t : ℤ) → cross (K · a_r) (K · b_r) (K · a_t) (K · b_t) ≡ (K * K) · cross a_r b_r a_t b_t
   unfolding cross
-  cross-times aR bR aT bT =
-      ap₂ ◌-ℤ◌ (product-times aR bT) (product-times aT bR) ∙ sub-scaled (K * K) (aR *ℤ bT) (aT *ℤ bR)
+  cross-times a_r b_r a_t b_t =
+      ap₂ ◌-ℤ◌ (product-times a_r b_t) (product-times a_t b_r) ∙ sub-scaled (K * K) (a_r *ℤ b_t) (a_t *ℤ b_r)
 
-  dot-times : (aR bR aT bT : ℤ) → dot (K · aR) (K · bR) (K · aT) (K · bT) ≡ (K * K) · dot aR bR aT bT
+  dot-times : (a_r b_r a_t b_t : ℤ) → dot (K · a_r) (K · b_r) (K · a_t) (K · b_t) ≡ (K * K) · dot a_r b_r a_t b_t
   unfolding dot
-  dot-times aR bR aT bT =
-      ap₂ ◌+ℤ◌ (product-times aR aT) (product-times bR bT) ∙ sym (mul-add-ℤ (pos (K * K)) (aR *ℤ aT) (bR *ℤ bT))
+  dot-times a_r b_r a_t b_t =
+      ap₂ ◌+ℤ◌ (product-times a_r a_t) (product-times b_r b_t) ∙ sym (mul_add_ℤ (pos (K * K)) (a_r *ℤ a_t) (b_r *ℤ b_t))
 
 pub eqb-zero-times : (k m : ℕ) → 0 < k → eqb (k * m) 0 ≡ eqb m 0
 eqb-zero-times k m some = either (eq-zero-or-pos m)
@@ -100,19 +100,19 @@ eqb-zero-times k m some = either (eq-zero-or-pos m)
     either (inl e) = eq-eqb (k * m) 0 (rw e (omega arith)) ∙ sym (eq-eqb m 0 e)
     either (inr g) = let p = mul-pos some g in ne_eqb (k * m) 0 (λ e. omega arith) ∙ sym (ne_eqb m 0 (λ e. omega arith))
 
-pub sameHue-times :
-    (K : ℕ) → 0 < K → (aR bR aT bT : ℤ) →
-    sameHue (cross (K · aR) (K · bR) (K · aT) (K · bT)) (dot (K · aR) (K · bR) (K · aT) (K · bT))
-    ≡ sameHue (cross aR bR aT bT) (dot aR bR aT bT)
-unfolding sameHue
-sameHue-times K some aR bR aT bT =
-    rw (cross-times K aR bR aT bT, dot-times K aR bR aT bT) (ap₂ (λ (p q : Bool). p && not q) zero sign)
+pub same_hue-times :
+    (K : ℕ) → 0 < K → (a_r b_r a_t b_t : ℤ) →
+    same_hue (cross (K · a_r) (K · b_r) (K · a_t) (K · b_t)) (dot (K · a_r) (K · b_r) (K · a_t) (K · b_t))
+    ≡ same_hue (cross a_r b_r a_t b_t) (dot a_r b_r a_t b_t)
+unfolding same_hue
+same_hue-times K some a_r b_r a_t b_t =
+    rw (cross-times K a_r b_r a_t b_t, dot-times K a_r b_r a_t b_t) (ap₂ (λ (p q : Bool). p && not q) zero sign)
   where
     x : ℤ
-    x = cross aR bR aT bT
+    x = cross a_r b_r a_t b_t
 
     y : ℤ
-    y = dot aR bR aT bT
+    y = dot a_r b_r a_t b_t
 
     zero : eqb ∣ (K * K) · x ∣ 0 ≡ eqb ∣ x ∣ 0
     zero = ap (λ (m : ℕ). eqb m 0) (abs-mul (pos (K * K)) x) ∙ eqb-zero-times (K * K) ∣ x ∣ (mul-pos some some)

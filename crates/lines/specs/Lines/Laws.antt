@@ -6,15 +6,15 @@ use Rattle.names.specs.declared.Axis.{Axis}
 use Rattle.names.specs.declared.Hue.TheVariants.{Towards}
 use Rattle.text.specs.Ascii.{ascii}
 use Rattle.text.specs.Put.{joined, line}
-use Rattle.lines.specs.Lines.{axisWord, hueWord}
+use Rattle.lines.specs.Lines.{axis_word, hue_word}
 
 module _ (name bracket : Axis) where
-  abbrev pub axesPieces : List (List ℕ)
-  axesPieces = ascii "hue=" ∷ axisWord name ∷ ascii "(" ∷ axisWord bracket ∷ ascii ")\n" ∷ []
+  abbrev pub axes_pieces : List (List ℕ)
+  axes_pieces = ascii "hue=" ∷ axis_word name ∷ ascii "(" ∷ axis_word bracket ∷ ascii ")\n" ∷ []
 
-  pub hue-axes : line (ascii "hue=") (hueWord (Towards name bracket)) ≡ joined axesPieces
+  pub hue-axes : line (ascii "hue=") (hue_word (Towards name bracket)) ≡ joined axes_pieces
   unfolding line
   hue-axes = simp append_assoc
 
-  pub axes-length : length (hueWord (Towards name bracket)) ≡ 2 + length (axisWord name) + length (axisWord bracket)
+  pub axes-length : length (hue_word (Towards name bracket)) ≡ 2 + length (axis_word name) + length (axis_word bracket)
   axes-length = simp length-append (omega arith)

@@ -5,7 +5,7 @@ use Rattle.std.proofs.Common.{arith}
 use Rattle.rounding.specs.Signed.{∣◌∣, minus}
 use Rattle.text.specs.Decimal.Nearest.{ShownNearest, shown-nearest}
 use Rattle.text.specs.declared.decimal.Shown.{Shown}
-use Rattle.lines.specs.Lines.{figure, signedFigure}
+use Rattle.lines.specs.Lines.{figure, signed_figure}
 
 -- d shows m units of 2 ^ -20, below zero if so it is said
 pub record FigureNearest (below : Bool) (m : ℕ) (d : Shown) : Type 0 where
@@ -18,5 +18,5 @@ pub figure-nearest : (below : Bool) (m : ℕ) → FigureNearest below m (figure 
 figure-nearest below m =
     record { places = refl; units = shown-nearest 4 (2 ^ 20) m (omega arith); whole = refl; sign = refl }
 
-pub signed-figure-nearest : (z : ℤ) → FigureNearest (minus z) ∣ z ∣ (signedFigure z)
+pub signed-figure-nearest : (z : ℤ) → FigureNearest (minus z) ∣ z ∣ (signed_figure z)
 signed-figure-nearest z = figure-nearest (minus z) ∣ z ∣

@@ -3,8 +3,8 @@ use mir.Facts.{to_z-of_z}
 use Rattle.names.proofs.chroma_name.Statement.{statement}
 use Rattle.names.proofs.chroma_name.Tie as tie
 
-pub chroma-name-spec : {M : Type 1} → statement M
-chroma-name-spec =
+pub chroma_name_spec : {M : Type 1} → statement M
+chroma_name_spec =
     tie.close
     (tie.spec
     (λ c. rw (rw (to_z-of_z c.before.ranges.dc) at c.if1.true))

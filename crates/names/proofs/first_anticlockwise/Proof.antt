@@ -1,7 +1,7 @@
 -- `names::first_anticlockwise` meets its contract: each way out is a row of the table (`Names/Laws.antt`).
 -- Assumes nothing.
 use mir.Facts.{to_z-of_z}
-use Rattle.names.specs.Names.Laws.{ahead-first-quarter, ahead-second-quarter, ahead-third-quarter}
+use Rattle.names.specs.Names.Laws.{ahead_first_quarter, ahead-second-quarter, ahead-third-quarter}
 use Rattle.names.specs.Names.Laws.{ahead-fourth-quarter, ahead-right}
 use Rattle.names.proofs.first_anticlockwise.Statement.{statement}
 use Rattle.names.proofs.first_anticlockwise.Tie as tie
@@ -9,7 +9,7 @@ use Rattle.names.proofs.first_anticlockwise.Tie as tie
 first : tie.Need-returns
 first c =
     let s = c.before.before in
-    ahead-first-quarter s.args.a s.args.b (rw (to_z-of_z s.ranges.b) at c.before.if1.true)
+    ahead_first_quarter s.args.a s.args.b (rw (to_z-of_z s.ranges.b) at c.before.if1.true)
     (rw (to_z-of_z s.ranges.a) at c.if2.true)
 
 second : tie.Need-returns-2
@@ -40,5 +40,5 @@ right c =
     (rw (to_z-of_z s.ranges.a) at c.before.if3.false)
     (rw (to_z-of_z s.ranges.b) at c.if4.false)
 
-pub first-anticlockwise-spec : {M : Type 1} → statement M
-first-anticlockwise-spec = tie.close (tie.spec first second third fourth right)
+pub first_anticlockwise_spec : {M : Type 1} → statement M
+first_anticlockwise_spec = tie.close (tie.spec first second third fourth right)

@@ -1,6 +1,6 @@
 -- `names::first_clockwise` meets its contract: each way out is a row of the table (`Names/Laws.antt`). Assumes nothing.
 use mir.Facts.{to_z-of_z}
-use Rattle.names.specs.Names.Laws.{behind-first-quarter, behind-second-quarter, behind-third-quarter}
+use Rattle.names.specs.Names.Laws.{behind_first_quarter, behind-second-quarter, behind-third-quarter}
 use Rattle.names.specs.Names.Laws.{behind-fourth-quarter, behind-left}
 use Rattle.names.proofs.first_clockwise.Statement.{statement}
 use Rattle.names.proofs.first_clockwise.Tie as tie
@@ -14,7 +14,7 @@ second c =
 first : tie.Need-returns-2
 first c =
     let s = c.before.before in
-    behind-first-quarter s.args.a s.args.b (rw (to_z-of_z s.ranges.b) at c.before.if1.true)
+    behind_first_quarter s.args.a s.args.b (rw (to_z-of_z s.ranges.b) at c.before.if1.true)
     (rw (to_z-of_z s.ranges.a) at c.if2.false)
 
 fourth : tie.Need-returns-3
@@ -39,5 +39,5 @@ left c =
     (rw (to_z-of_z s.ranges.a) at c.before.if3.false)
     (rw (to_z-of_z s.ranges.b) at c.if4.false)
 
-pub first-clockwise-spec : {M : Type 1} → statement M
-first-clockwise-spec = tie.close (tie.spec second first fourth third left)
+pub first_clockwise_spec : {M : Type 1} → statement M
+first_clockwise_spec = tie.close (tie.spec second first fourth third left)

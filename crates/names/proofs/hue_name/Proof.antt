@@ -4,23 +4,23 @@ use mathlib.Core.Bool.{Bool}
 use borrow.Author.Rules.{rules}
 use lib.IntN.{ℤ}
 use mir.Facts.{to_z-of_z}
-use Rattle.sheet.specs.Sheet.{sameHue}
+use Rattle.sheet.specs.Sheet.{same_hue}
 use Rattle.names.specs.declared.Axis.{Axis}
 use Rattle.names.specs.declared.Hue.TheVariants.{Towards}
-use Rattle.names.specs.Names.{firstMet, nextMet}
-use Rattle.names.specs.Names.Laws.{hue-equal, hue-towards}
+use Rattle.names.specs.Names.{first_met, next_met}
+use Rattle.names.specs.Names.Laws.{hue-equal, hue_towards}
 use Rattle.names.proofs.hue_name.Statement.{statement}
 use Rattle.names.proofs.hue_name.Tie as tie
 
-same-is : (c : tie.After-same-hue) → c.same-hue.result ≡ sameHue c.before.args.cross c.before.args.dot
-same-is c = simp (to_z-of_z, c.before.ranges.cross, c.before.ranges.dot) at c.same-hue.ensures
+same_is : (c : tie.After-same-hue) → c.same-hue.result ≡ same_hue c.before.args.cross c.before.args.dot
+same_is c = simp (to_z-of_z, c.before.ranges.cross, c.before.ranges.dot) at c.same-hue.ensures
 
 equal : tie.Need-returns
-equal c = sym (hue-equal _ _ _ _ (sym (same-is c.before) ∙ c.if1.true))
+equal c = sym (hue-equal _ _ _ _ (sym (same_is c.before) ∙ c.if1.true))
 
 turned :
-    (a b : ℤ) {first next : Axis} {w v : Bool} → w ≡ v → first ≡ firstMet v a b → next ≡ nextMet v first →
-    Towards first next ≡ Towards (firstMet w a b) (nextMet w (firstMet w a b))
+    (a b : ℤ) {first next : Axis} {w v : Bool} → w ≡ v → first ≡ first_met v a b → next ≡ next_met v first →
+    Towards first next ≡ Towards (first_met w a b) (next_met w (first_met w a b))
 turned a b hw hf hn = cc
 
 clockwise : tie.Need-returns-2
@@ -28,23 +28,23 @@ clockwise c =
     let t = c.before.before in
     let e = t.before in
     let s = e.before.before in
-    let first = simp (to_z-of_z, s.ranges.a, s.ranges.b) at c.before.first-clockwise.ensures in
+    let first = simp (to_z-of_z, s.ranges.a, s.ranges.b) at c.before.first_clockwise_lem.ensures in
     turned s.args.a s.args.b (rw (to_z-of_z s.ranges.cross) at t.if2.true) first c.next-axis.ensures
-    ∙ sym (hue-towards s.args.cross s.args.dot s.args.a s.args.b
-    (sym (same-is e.before) ∙ e.if1.false))
+    ∙ sym (hue_towards s.args.cross s.args.dot s.args.a s.args.b
+    (sym (same_is e.before) ∙ e.if1.false))
 
 anticlockwise : tie.Need-returns-3
 anticlockwise c =
     let t = c.before.before in
     let e = t.before in
     let s = e.before.before in
-    let first = simp (to_z-of_z, s.ranges.a, s.ranges.b) at c.before.first-anticlockwise.ensures in
+    let first = simp (to_z-of_z, s.ranges.a, s.ranges.b) at c.before.first_anticlockwise_lem.ensures in
     turned s.args.a s.args.b (rw (to_z-of_z s.ranges.cross) at t.if2.false) first c.next-axis2.ensures
-    ∙ sym (hue-towards s.args.cross s.args.dot s.args.a s.args.b
-    (sym (same-is e.before) ∙ e.if1.false))
+    ∙ sym (hue_towards s.args.cross s.args.dot s.args.a s.args.b
+    (sym (same_is e.before) ∙ e.if1.false))
 
-pub hue-name-spec : {M : Type 1} → statement M
-hue-name-spec =
+pub hue_name_spec : {M : Type 1} → statement M
+hue_name_spec =
     tie.close
     (tie.spec
     (λ c κs. search rules)

@@ -17,11 +17,11 @@ use Rattle.names.proofs.is_achromatic.Statement.{statement}
 use Rattle.names.proofs.is_achromatic.Tie as tie
 
 module _ (x y : ℕ) where
-  first-past-4 : 4194304 < x → leb (x * x + y * y) 17592186044416 ≡ false
-  first-past-4 h = lt-leb (x * x + y * y) 17592186044416 (omega (arith, mul-le-mul h h))
+  first_past_4 : 4194304 < x → leb (x * x + y * y) 17592186044416 ≡ false
+  first_past_4 h = lt-leb (x * x + y * y) 17592186044416 (omega (arith, mul-le-mul h h))
 
-  second-past-4 : 4194304 < y → leb (x * x + y * y) 17592186044416 ≡ false
-  second-past-4 h = lt-leb (x * x + y * y) 17592186044416 (omega (arith, mul-le-mul h h))
+  second_past_4 : 4194304 < y → leb (x * x + y * y) 17592186044416 ≡ false
+  second_past_4 h = lt-leb (x * x + y * y) 17592186044416 (omega (arith, mul-le-mul h h))
 
 square_le : {x : ℕ} → x ≤ 4194304 → x * x ≤ 2 ^ 44
 square_le h = mul-le-mul h h
@@ -34,38 +34,38 @@ module _ (c : tie.After-magnitude2) where
   abbrev start : tie.Start
   start = at_a.before.before
 
-  a-is : at_a.magnitude.result ≡ ∣ start.args.x.a.0 ∣
-  a-is =
+  a_is : at_a.magnitude.result ≡ ∣ start.args.x.a.0 ∣
+  a_is =
       let back : to_z w64 (of_z w64 start.args.x.a.0) ≡ start.args.x.a.0 = search rules in
       at_a.magnitude.ensures ∙ ap (λ (z : ℤ). ∣ z ∣) back
 
-  b-is : c.magnitude2.result ≡ ∣ start.args.x.b.0 ∣
-  b-is =
+  b_is : c.magnitude2.result ≡ ∣ start.args.x.b.0 ∣
+  b_is =
       let back : to_z w64 (of_z w64 start.args.x.b.0) ≡ start.args.x.b.0 = search rules in
       c.magnitude2.ensures ∙ ap (λ (z : ℤ). ∣ z ∣) back
 
-a-past-4 : tie.Need-returns
+a_past_4 : tie.Need-returns
 unfolding achromatic
-a-past-4 c = sym (first-past-4 _ _ (rw (a-is c.before) at c.if1.true))
+a_past_4 c = sym (first_past_4 _ _ (rw (a_is c.before) at c.if1.true))
 
-b-past-4 : tie.Need-returns-2
+b_past_4 : tie.Need-returns-2
 unfolding achromatic
-b-past-4 c = sym (second-past-4 _ _ (rw (b-is c.before.before) at c.if2.true))
+b_past_4 c = sym (second_past_4 _ _ (rw (b_is c.before.before) at c.if2.true))
 
 returns : tie.Need-returns-3
 unfolding achromatic
 returns c =
     let at_b = c.before.before in
-    ap₂ (λ (x y : ℕ). leb (x * x + y * y) 17592186044416) (a-is at_b) (b-is at_b)
+    ap₂ (λ (x y : ℕ). leb (x * x + y * y) 17592186044416) (a_is at_b) (b_is at_b)
 
-pub is-achromatic-spec : {M : Type 1} → statement M
-is-achromatic-spec =
+pub is_achromatic_spec : {M : Type 1} → statement M
+is_achromatic_spec =
     tie.close
     (tie.spec
     (λ c κs. search rules)
     (λ c κs. search rules)
-    a-past-4
-    b-past-4
+    a_past_4
+    b_past_4
     (λ c. omega (arith, square_le c.before.if1.false))
     (λ c. omega (arith, square_le c.if2.false))
     (λ c. omega (arith, square_le c.before.if1.false, square_le c.if2.false))

@@ -3,8 +3,8 @@ use mir.Facts.{to_z-of_z}
 use Rattle.names.proofs.lightness_name.Statement.{statement}
 use Rattle.names.proofs.lightness_name.Tie as tie
 
-pub lightness-name-spec : {M : Type 1} → statement M
-lightness-name-spec =
+pub lightness_name_spec : {M : Type 1} → statement M
+lightness_name_spec =
     tie.close
     (tie.spec
     (λ c. rw (rw (to_z-of_z c.before.ranges.dl) at c.if1.true))

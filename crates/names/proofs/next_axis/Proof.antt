@@ -4,16 +4,16 @@ use mathlib.Core.Path.{◌≡◌, sym, ap₂, ◌∙◌}
 use mathlib.Core.Bool.{Bool}
 use borrow.Author.Rules.{rules}
 use Rattle.names.specs.declared.Axis.{Axis}
-use Rattle.names.specs.Names.{nextMet}
+use Rattle.names.specs.Names.{next_met}
 use Rattle.names.specs.Names.Laws.{turn, next-turn}
 use Rattle.names.proofs.next_axis.Statement.{statement}
 use Rattle.names.proofs.next_axis.Tie as tie
 
-row : {w v : Bool} {x y : Axis} → w ≡ v → x ≡ y → turn v y ≡ nextMet w x
+row : {w v : Bool} {x y : Axis} → w ≡ v → x ≡ y → turn v y ≡ next_met w x
 row {w} {x = x} hw hx = sym (next-turn w x ∙ ap₂ turn hw hx)
 
-pub next-axis-spec : {M : Type 1} → statement M
-next-axis-spec =
+pub next_axis_spec : {M : Type 1} → statement M
+next_axis_spec =
     tie.close
     (tie.spec
     (λ c. search rules)

@@ -1,6 +1,6 @@
 -- The report's number says whether it was written. Assumes nothing.
 use borrow.Author.Rules.{rules}
-use Rattle.printing.specs.Printed.Laws.{prints-report, prints-no-report}
+use Rattle.printing.specs.Printed.Laws.{prints_report, prints_no_report}
 use Rattle.printing.proofs.print_report.Statement.{statement}
 use Rattle.printing.proofs.print_report.Tie as tie
 
@@ -8,15 +8,15 @@ written : tie.Need-returns
 written c =
     let taken = c.before in
     let at-writing = taken.before.before.before in
-    prints-report at-writing.write-report.ensures taken.if1.true c.report-len.ensures
+    prints_report at-writing.write-report.ensures taken.if1.true c.report-len.ensures
 
 too_short : tie.Need-returns-2
 too_short c =
     let at-writing = c.before.before.before in
-    prints-no-report at-writing.write-report.ensures c.if1.false
+    prints_no_report at-writing.write-report.ensures c.if1.false
 
-pub print-report-spec : {M : Type 1} → statement M
-print-report-spec =
+pub print_report_spec : {M : Type 1} → statement M
+print_report_spec =
     tie.close
     (tie.spec
     (λ c κs. search rules)

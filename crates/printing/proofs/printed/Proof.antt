@@ -1,6 +1,6 @@
 -- A refusal's line or a report, by what the parsed text comes to. Assumes nothing.
 use borrow.Author.Rules.{rules}
-use Rattle.printing.specs.Printed.Laws.{refusal-printed, report-printed, prints-as}
+use Rattle.printing.specs.Printed.Laws.{refusal-printed, report-printed, prints_as}
 use Rattle.printing.proofs.printed.Statement.{statement}
 use Rattle.printing.proofs.printed.Tie as tie
 
@@ -8,11 +8,11 @@ refused : tie.Need-returns
 refused c =
     let at-printing = c.before.before in
     let at-line = at-printing.before.before in
-    let at-number = at-line.before.before in
-    let at-outcome = at-number.before.before in
-    prints-as
+    let at_number = at-line.before.before in
+    let at-outcome = at_number.before.before in
+    prints_as
     (refusal-printed _ at-outcome.before.parse.ensures at-outcome.ticket-outcome.ensures
-    at-number.number.given.1 at-line.Line-of.ensures)
+    at_number.number.given.1 at-line.Line-of.ensures)
     at-printing.print-refusal.ensures
 
 judged : tie.Need-returns-2
@@ -21,13 +21,13 @@ judged c =
     let told = at-printing.before.before in
     let at-judgement = told.before in
     let at-outcome = at-judgement.before.before in
-    prints-as
+    prints_as
     (report-printed _ at-outcome.before.parse.ensures at-outcome.ticket-outcome.ensures
     at-judgement.j.given.1)
     at-printing.print-report.ensures
 
-pub printed-spec : {M : Type 1} → statement M
-printed-spec =
+pub printed_spec : {M : Type 1} → statement M
+printed_spec =
     tie.close
     (tie.spec
     (λ c κs. search rules)

@@ -2,40 +2,40 @@
 -- and refusals. No proof cites this. Assumes nothing.
 use Prim.Native.String.{String}
 use Rattle.std.specs.Prelude.{◌≡◌, refl, List, [], ◌∷◌, ◌++◌, ℕ}
-use Rattle.rounding.specs.Root.{rootOf}
+use Rattle.rounding.specs.Root.{root_of}
 use Rattle.rounding.specs.Signed.{◌÷◌}
-use Rattle.reading.specs.Reading.{decimalUnits}
-use Rattle.colour.specs.Conversion.{atPlaces}
-use Rattle.colour.specs.Placed.{take, placeWritten}
+use Rattle.reading.specs.Reading.{decimal_units}
+use Rattle.colour.specs.Conversion.{at_places}
+use Rattle.colour.specs.Placed.{take, place_written}
 use Rattle.sheet.specs.Settings.{within}
-use Rattle.sheet.specs.Sheet.{chroma, cross, dot, sameHue, hueChange, semiAxisL, semiAxisC, component, componentH}
-use Rattle.sheet.specs.Sheet.{total, hueSemiAxis}
-use Rattle.sheet.specs.Sheet.{semiAxesCMC, semiAxes, shift, differences, sheet, compared, verdictOn, comparison}
+use Rattle.sheet.specs.Sheet.{chroma, cross, dot, same_hue, hue_change, semi_axis_l, semi_axis_c, component, component_h}
+use Rattle.sheet.specs.Sheet.{total, hue_semi_axis}
+use Rattle.sheet.specs.Sheet.{semi_axes_cmc, semi_axes, shift, differences, sheet, compared, verdict_on, comparison}
 use Rattle.names.specs.Names.{achromatic}
 use Rattle.text.specs.Ascii.{ascii}
 use Rattle.text.specs.Put.{joined, line}
-use Rattle.text.specs.Decimal.{shown, lastDigits, width_in, decimalText}
-use Rattle.text.specs.Bytes.{index_of, before, after, starts_with, sameBytes}
-use Rattle.text.specs.Number.{numeral, digitsOf, fractionOf, decimalOf, signed_of}
-use Rattle.ticket.specs.Ticket.{named, inSpace, reading_of, due, nothingMore}
-use Rattle.ticket.specs.Ticket.{testLine, refLine, spaceLine, tolLine, cLine, factorLines, whiteLine, ticketOf}
-use Rattle.report.specs.Report.{settingLines, figureLines, wordLines, reportText}
+use Rattle.text.specs.Decimal.{shown, last_digits, width_in, decimal_text}
+use Rattle.text.specs.Bytes.{index_of, before, after, starts_with, same_bytes}
+use Rattle.text.specs.Number.{numeral, digits_of, fraction_of, decimal_of, signed_of}
+use Rattle.ticket.specs.Ticket.{named, in_space, reading_of, due, nothing_more}
+use Rattle.ticket.specs.Ticket.{test_line, ref_line, space_line, tol_line, c_line, factor_lines, white_line, ticket_of}
+use Rattle.report.specs.Report.{setting_lines, figure_lines, word_lines, report_text}
 use Rattle.standard.specs.Refusals.{number_at, first_of, refusal}
-use Rattle.standard.specs.Acceptance.{rangeFaults, acceptFaults, acceptance}
-use Rattle.standard.specs.Judgement.{judgementOf, outcome}
-use Rattle.calls.specs.Outcome.{ticketOutcome}
-use Rattle.printing.specs.Printed.{refusalLine, printedText}
+use Rattle.standard.specs.Acceptance.{range_faults, accept_faults, acceptance}
+use Rattle.standard.specs.Judgement.{judgement_of, outcome}
+use Rattle.calls.specs.Outcome.{ticket_outcome}
+use Rattle.printing.specs.Printed.{refusal_line, printed_text}
 
-abbrev printedFor : String → List ℕ
-printedFor s = printedText (ascii s)
+abbrev printed_for : String → List ℕ
+printed_for s = printed_text (ascii s)
 
 -- from line 3 on
 abbrev from3 : String → List ℕ
-from3 s = printedText (ascii "formula=CMC\nwhite=D65/10\n" ++ ascii s)
+from3 s = printed_text (ascii "formula=CMC\nwhite=D65/10\n" ++ ascii s)
 
 pub record PrintedCases : Type 0 where
-  pub whole-case :
-      printedFor "formula=CMC\nwhite=D65/10\nl=1.000\nc=1.000\ntol=1.000\nspace=LAB\nref=50 0 0\ntest=51 0 0\n"
+  pub whole_case_lem :
+      printed_for "formula=CMC\nwhite=D65/10\nl=1.000\nc=1.000\ntol=1.000\nspace=LAB\nref=50 0 0\ntest=51 0 0\n"
       ≡ joined
       (ascii "formula=CMC\n"
       ∷ ascii "white=D65/10\n"
@@ -51,7 +51,7 @@ pub record PrintedCases : Type 0 where
       ∷ ascii "verdict=pass\n"
       ∷ [])
   -- the same pair without the lines l and c, which are 2.000 and 1.000 then: case 8 of SCOPE 12.1
-  pub without-l-and-c :
+  pub without_l_and_c_lem :
       from3 "tol=1.000\nspace=LAB\nref=50 0 0\ntest=51 0 0\n"
       ≡ joined
       (ascii "formula=CMC\n"
@@ -67,27 +67,27 @@ pub record PrintedCases : Type 0 where
       ∷ ascii "hue=withheld\n"
       ∷ ascii "verdict=pass\n"
       ∷ [])
-  pub empty : printedFor "" ≡ ascii "refused=7 line=1\n"
+  pub empty : printed_for "" ≡ ascii "refused=7 line=1\n"
   pub third-line :
       from3 "l=1,000\nc=1.000\ntol=1.000\nspace=LAB\nref=50 0 0\ntest=51 0 0\n" ≡ ascii "refused=7 line=3\n"
   pub factor : from3 "l=0.499\nc=1\ntol=1\nspace=LAB\nref=50 0 0\ntest=51 0 0\n" ≡ ascii "refused=3 line=0\n"
   pub out_of_range : from3 "tol=1\nspace=LAB\nref=50 0 0\ntest=121 0 0\n" ≡ ascii "refused=6 line=0\n"
 
-pub printed-cases : PrintedCases
-unfolding rootOf ◌÷◌ decimalUnits atPlaces take placeWritten within
-    chroma cross dot sameHue hueChange semiAxisL semiAxisC component componentH total hueSemiAxis
-    semiAxesCMC semiAxes shift differences sheet compared verdictOn comparison achromatic
-    line shown lastDigits width_in decimalText index_of before after starts_with sameBytes numeral digitsOf fractionOf
-    decimalOf signed_of
-    named inSpace reading_of due nothingMore
-    testLine refLine spaceLine tolLine cLine factorLines whiteLine ticketOf
-    settingLines figureLines wordLines reportText
-    number_at first_of refusal rangeFaults acceptFaults acceptance judgementOf outcome ticketOutcome refusalLine
-    printedText
-printed-cases =
+pub printed_cases : PrintedCases
+unfolding root_of ◌÷◌ decimal_units at_places take place_written within
+    chroma cross dot same_hue hue_change semi_axis_l semi_axis_c component component_h total hue_semi_axis
+    semi_axes_cmc semi_axes shift differences sheet compared verdict_on comparison achromatic
+    line shown last_digits width_in decimal_text index_of before after starts_with same_bytes numeral digits_of fraction_of
+    decimal_of signed_of
+    named in_space reading_of due nothing_more
+    test_line ref_line space_line tol_line c_line factor_lines white_line ticket_of
+    setting_lines figure_lines word_lines report_text
+    number_at first_of refusal range_faults accept_faults acceptance judgement_of outcome ticket_outcome refusal_line
+    printed_text
+printed_cases =
     record {
-      whole-case = refl;
-      without-l-and-c = refl;
+      whole_case_lem = refl;
+      without_l_and_c_lem = refl;
       empty = refl;
       third-line = refl;
       factor = refl;

@@ -20,15 +20,15 @@ use Rattle.names.specs.declared.Hue.{Hue}
 use Rattle.names.specs.declared.Hue.TheVariants as H
 use Rattle.standard.specs.declared.judge.Judgement.{Judgement}
 use Rattle.text.specs.Bytes.Parts.{free, free-append}
-use Rattle.text.specs.Decimal.{decimalText}
-use Rattle.text.specs.Names.{formulaName, whiteName}
+use Rattle.text.specs.Decimal.{decimal_text}
+use Rattle.text.specs.Names.{formula_name, white_name}
 use Rattle.text.specs.Number.Written.{free-minus, free-decimal}
 use Rattle.text.specs.Lines.{ended}
 use Rattle.text.specs.Lines.Laws.{bytes, Proper, AreLines}
 use Rattle.text.specs.Put.{joined, line}
 use Rattle.text.specs.declared.decimal.Shown.{Shown}
-use Rattle.lines.specs.Lines.{lightnessWord, chromaWord, axisWord, hueWord, verdictWord, unlessWithheld}
-use Rattle.report.specs.Report.{settingLines, figureLines, wordLines, reportText}
+use Rattle.lines.specs.Lines.{lightness_word, chroma_word, axis_word, hue_word, verdict_word, unless_withheld}
+use Rattle.report.specs.Report.{setting_lines, figure_lines, word_lines, report_text}
 
 -- ---- a text of k lines, each ended by LF; as `AreLines` has it, no other LF stands in them
 
@@ -40,11 +40,11 @@ pub record IsLines (k : ℕ) (s : List ℕ) : Type 0 where
 no_lines : IsLines 0 []
 no_lines = record { lines = []; count = refl; are = record { whole = refl; proper = tt } }
 
-one-more-line :
+one_more_line :
     {k : ℕ} {s : List ℕ} (key value : List ℕ) → free 10 key ≡ true → free 10 value ≡ true → IsLines k s →
     IsLines (suc k) (line key value ++ s)
 unfolding line
-one-more-line key value hk hv h = record {
+one_more_line key value hk hv h = record {
   lines = (key ++ value) ∷ h.lines;
   count = ap suc h.count;
   are = record {
@@ -79,77 +79,77 @@ lines-append h g = record {
 
 -- ---- what a line says has no LF
 
-free-number : (d : Shown) → free 10 (decimalText d) ≡ true
+free-number : (d : Shown) → free 10 (decimal_text d) ≡ true
 free-number d = free-decimal 10 d (lit< tt) refl (free-minus 10 d.minus refl)
 
-free-formula : (f : Formula) → free 10 (formulaName f) ≡ true
+free-formula : (f : Formula) → free 10 (formula_name f) ≡ true
 free-formula CIELAB = refl
 free-formula CIE94 = refl
 free-formula CMC = refl
 
-free-white : (w : White) → free 10 (whiteName w) ≡ true
+free-white : (w : White) → free 10 (white_name w) ≡ true
 free-white D65Ten = refl
 free-white D65Two = refl
 free-white CTen = refl
 free-white CTwo = refl
 
-free-lightness : (x : Lightness) → free 10 (lightnessWord x) ≡ true
+free-lightness : (x : Lightness) → free 10 (lightness_word x) ≡ true
 free-lightness L.Lighter = refl
 free-lightness L.Darker = refl
 free-lightness L.Equal = refl
 
-free-chroma : (x : Chroma) → free 10 (chromaWord x) ≡ true
+free-chroma : (x : Chroma) → free 10 (chroma_word x) ≡ true
 free-chroma C.More = refl
 free-chroma C.Less = refl
 free-chroma C.Equal = refl
 
-free-axis : (x : Axis) → free 10 (axisWord x) ≡ true
+free-axis : (x : Axis) → free 10 (axis_word x) ≡ true
 free-axis Redder = refl
 free-axis Yellower = refl
 free-axis Greener = refl
 free-axis Bluer = refl
 
-free-hue : (x : Hue) → free 10 (hueWord x) ≡ true
+free-hue : (x : Hue) → free 10 (hue_word x) ≡ true
 free-hue H.Equal = refl
 free-hue (H.Towards name bracket) =
-    free-append 10 (axisWord name) _ (free-axis name) (free-append 10 (axisWord bracket) _ (free-axis bracket) refl)
+    free-append 10 (axis_word name) _ (free-axis name) (free-append 10 (axis_word bracket) _ (free-axis bracket) refl)
 
-free-verdict : (v : Verdict) → free 10 (verdictWord v) ≡ true
+free-verdict : (v : Verdict) → free 10 (verdict_word v) ≡ true
 free-verdict Near = refl
 free-verdict Pass = refl
 free-verdict Fail = refl
 
-free-unless : (withheld : Bool) (s : List ℕ) → free 10 s ≡ true → free 10 (unlessWithheld withheld s) ≡ true
-free-unless true s h = refl
-free-unless false s h = h
+free_unless : (withheld : Bool) (s : List ℕ) → free 10 s ≡ true → free 10 (unless_withheld withheld s) ≡ true
+free_unless true s h = refl
+free_unless false s h = h
 
 -- ---- four lines, four lines, four lines
 
-setting-lines : (s : Settings) → IsLines 4 (joined (settingLines s))
-unfolding settingLines
-setting-lines s =
-    one-more-line _ _ refl (free-formula s.formula)
-    (one-more-line _ _ refl (free-white s.white)
-    (one-more-line _ _ refl (free-number _) (one-more-line _ _ refl (free-number _) no_lines)))
+setting_lines_lem : (s : Settings) → IsLines 4 (joined (setting_lines s))
+unfolding setting_lines
+setting_lines_lem s =
+    one_more_line _ _ refl (free-formula s.formula)
+    (one_more_line _ _ refl (free-white s.white)
+    (one_more_line _ _ refl (free-number _) (one_more_line _ _ refl (free-number _) no_lines)))
 
-figure-lines : (withheld : Bool) (d : Differences) → IsLines 4 (joined (figureLines withheld d))
-unfolding figureLines
+figure-lines : (withheld : Bool) (d : Differences) → IsLines 4 (joined (figure_lines withheld d))
+unfolding figure_lines
 figure-lines withheld d =
-    one-more-line _ _ refl (free-number _)
-    (one-more-line _ _ refl (free-number _)
-    (one-more-line _ _ refl (free-unless withheld _ (free-number _))
-    (one-more-line _ _ refl (free-unless withheld _ (free-number _)) no_lines)))
+    one_more_line _ _ refl (free-number _)
+    (one_more_line _ _ refl (free-number _)
+    (one_more_line _ _ refl (free_unless withheld _ (free-number _))
+    (one_more_line _ _ refl (free_unless withheld _ (free-number _)) no_lines)))
 
-word-lines : (j : Judgement) → IsLines 4 (joined (wordLines j))
-unfolding wordLines
+word-lines : (j : Judgement) → IsLines 4 (joined (word_lines j))
+unfolding word_lines
 word-lines j =
-    one-more-line _ _ refl (free-lightness j.lightness)
-    (one-more-line _ _ refl (free-unless j.withheld _ (free-chroma j.chroma))
-    (one-more-line _ _ refl (free-unless j.withheld _ (free-hue j.hue))
-    (one-more-line _ _ refl (free-verdict j.verdict) no_lines)))
+    one_more_line _ _ refl (free-lightness j.lightness)
+    (one_more_line _ _ refl (free_unless j.withheld _ (free-chroma j.chroma))
+    (one_more_line _ _ refl (free_unless j.withheld _ (free-hue j.hue))
+    (one_more_line _ _ refl (free-verdict j.verdict) no_lines)))
 
-pub report-twelve-lines : (j : Judgement) → IsLines 12 (reportText j)
-unfolding reportText
-report-twelve-lines j =
-    lines-append (setting-lines j.standard.settings)
+pub report_twelve_lines : (j : Judgement) → IsLines 12 (report_text j)
+unfolding report_text
+report_twelve_lines j =
+    lines-append (setting_lines_lem j.standard.settings)
     (lines-append (figure-lines j.withheld j.comparison.differences) (lines-append (word-lines j) no_lines))

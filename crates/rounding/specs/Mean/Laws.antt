@@ -5,11 +5,11 @@ use Rattle.std.proofs.Common.{sym, ap, ap₂, ◌∙◌, true≢false, zero-le, 
 use mathlib.Core.List.{List, [], ◌∷◌, ◌++◌, Permᴰ}
 use Rattle.std.proofs.Math.IntN.{+ℤ_comm, +ℤ_assoc, zero-*ℤ, suc_ℤ-*ℤ}
 use Rattle.rounding.specs.Every.{Every, none, more}
-use Rattle.rounding.specs.Nearest.{nearestUp, rounded}
-use Rattle.rounding.specs.Nearest.Laws.{Closest, closest, nearest-le, nearest-whole}
+use Rattle.rounding.specs.Nearest.{nearest_up, rounded}
+use Rattle.rounding.specs.Nearest.Laws.{Closest, closest, nearest-le, nearest_whole}
 use Rattle.rounding.specs.Signed.{∣◌∣, minus, ◌·◌}
 use Rattle.rounding.specs.Signed.Laws.{abs-add-le, abs-mul, abs-signed, signed-abs, minus-scaled}
-use Rattle.rounding.specs.Mean.{sum, meanOf, mean}
+use Rattle.rounding.specs.Mean.{sum, mean_of, mean}
 
 -- ---- sums
 
@@ -25,10 +25,10 @@ sum-le m none = zero-le
 sum-le m (more {x = z} {xs = zs} h hs) = omega (arith, sum-le m hs, abs-add-le z (sum zs))
 
 -- numbers that are not below 0 have a sum that is not
-pub sum-not-minus : {zs : List ℤ} → Every (λ (z : ℤ). minus z ≡ false) zs → minus (sum zs) ≡ false
+pub sum_not_minus : {zs : List ℤ} → Every (λ (z : ℤ). minus z ≡ false) zs → minus (sum zs) ≡ false
 unfolding sum
-sum-not-minus none = refl
-sum-not-minus (more {x = z} {xs = zs} h hs) = go z (sum zs) h (sum-not-minus hs)
+sum_not_minus none = refl
+sum_not_minus (more {x = z} {xs = zs} h hs) = go z (sum zs) h (sum_not_minus hs)
   where
     go : (x y : ℤ) → minus x ≡ false → minus y ≡ false → minus (x +ℤ y) ≡ false
     go (pos a) (pos b) p q = le-ltb (a + b) 0 zero-le
@@ -43,51 +43,51 @@ sum_same v (more {xs = zs} e es) =
     ap₂ ◌+ℤ◌ e (sum_same v es) ∙ +ℤ_comm v (length zs · v) ∙ sym (suc_ℤ-*ℤ (pos (length zs)) v)
 
 -- the order does not matter
-pub sum-perm : {us vs : List ℤ} → Permᴰ us vs → sum us ≡ sum vs
+pub sum_perm : {us vs : List ℤ} → Permᴰ us vs → sum us ≡ sum vs
 unfolding sum
-sum-perm Permᴰ.nil = refl
-sum-perm (Permᴰ.cons e d) = ap₂ ◌+ℤ◌ e (sum-perm d)
-sum-perm (Permᴰ.swap {a} {b} {a'} {b'} {l} e₁ e₂) =
+sum_perm Permᴰ.nil = refl
+sum_perm (Permᴰ.cons e d) = ap₂ ◌+ℤ◌ e (sum_perm d)
+sum_perm (Permᴰ.swap {a} {b} {a'} {b'} {l} e₁ e₂) =
     sym (+ℤ_assoc a b (sum l)) ∙ ap (λ (z : ℤ). z +ℤ sum l) (+ℤ_comm a b) ∙ +ℤ_assoc b a (sum l)
     ∙ ap₂ (λ (y z : ℤ). y +ℤ (z +ℤ sum l)) e₂ e₁
-sum-perm (Permᴰ.trans d₁ d₂) = sum-perm d₁ ∙ sum-perm d₂
+sum_perm (Permᴰ.trans d₁ d₂) = sum_perm d₁ ∙ sum_perm d₂
 
-pub length-perm : {A : Type 0} {us vs : List A} → Permᴰ us vs → length us ≡ length vs
-length-perm Permᴰ.nil = refl
-length-perm (Permᴰ.cons e d) = ap suc (length-perm d)
-length-perm (Permᴰ.swap e₁ e₂) = refl
-length-perm (Permᴰ.trans d₁ d₂) = length-perm d₁ ∙ length-perm d₂
+pub length_perm : {A : Type 0} {us vs : List A} → Permᴰ us vs → length us ≡ length vs
+length_perm Permᴰ.nil = refl
+length_perm (Permᴰ.cons e d) = ap suc (length_perm d)
+length_perm (Permᴰ.swap e₁ e₂) = refl
+length_perm (Permᴰ.trans d₁ d₂) = length_perm d₁ ∙ length_perm d₂
 
 -- ---- means
 
 -- the magnitude rounded, the sign put back
-pub mean-by : (z : ℤ) (n : ℕ) {r : ℤ} {m : ℕ} → m ≡ ∣ z ∣ → r ≡ rounded (minus z) m n → r ≡ meanOf z n
-mean-by z n e h = h ∙ ap (λ (m : ℕ). rounded (minus z) m n) e
+pub mean_by : (z : ℤ) (n : ℕ) {r : ℤ} {m : ℕ} → m ≡ ∣ z ∣ → r ≡ rounded (minus z) m n → r ≡ mean_of z n
+mean_by z n e h = h ∙ ap (λ (m : ℕ). rounded (minus z) m n) e
 
 -- in magnitude the mean is as near to the sum over the count as a whole number can be, and in a tie the greater
 pub mean-closest : (zs : List ℤ) → 0 < length zs → Closest ∣ sum zs ∣ (length zs) ∣ mean zs ∣
 mean-closest zs some =
-    rw (abs-signed (minus (sum zs)) (nearestUp ∣ sum zs ∣ (length zs))) (closest ∣ sum zs ∣ (length zs) some)
+    rw (abs-signed (minus (sum zs)) (nearest_up ∣ sum zs ∣ (length zs))) (closest ∣ sum zs ∣ (length zs) some)
 
 -- numbers at most m in magnitude have such a mean
 pub mean-le : (m : ℕ) {zs : List ℤ} → 0 < length zs → Every (λ (z : ℤ). ∣ z ∣ ≤ m) zs → ∣ mean zs ∣ ≤ m
 mean-le m {zs} some h =
-    rw (abs-signed (minus (sum zs)) (nearestUp ∣ sum zs ∣ (length zs)))
+    rw (abs-signed (minus (sum zs)) (nearest_up ∣ sum zs ∣ (length zs)))
     (nearest-le ∣ sum zs ∣ (length zs) m some (sum-le m h))
 
 -- and those that are not below 0 one that is not
-pub mean-not-minus : {zs : List ℤ} → Every (λ (z : ℤ). minus z ≡ false) zs → minus (mean zs) ≡ false
-mean-not-minus {zs} h = rw (sum-not-minus h) (le-ltb (nearestUp ∣ sum zs ∣ (length zs)) 0 zero-le)
+pub mean_not_minus : {zs : List ℤ} → Every (λ (z : ℤ). minus z ≡ false) zs → minus (mean zs) ≡ false
+mean_not_minus {zs} h = rw (sum_not_minus h) (le-ltb (nearest_up ∣ sum zs ∣ (length zs)) 0 zero-le)
 
 -- EQUAL NUMBERS HAVE THEMSELVES FOR A MEAN
-pub mean-same : (v : ℤ) {zs : List ℤ} → 0 < length zs → Every (λ (z : ℤ). z ≡ v) zs → mean zs ≡ v
-mean-same v {zs} some h = rw (sum_same v h, minus-scaled (length zs) v some, size) (signed-abs v)
+pub mean_same : (v : ℤ) {zs : List ℤ} → 0 < length zs → Every (λ (z : ℤ). z ≡ v) zs → mean zs ≡ v
+mean_same v {zs} some h = rw (sum_same v h, minus-scaled (length zs) v some, size) (signed-abs v)
   where
-    size : nearestUp ∣ length zs · v ∣ (length zs) ≡ ∣ v ∣
+    size : nearest_up ∣ length zs · v ∣ (length zs) ≡ ∣ v ∣
     size =
-        ap (λ (a : ℕ). nearestUp a (length zs)) (abs-mul (pos (length zs)) v ∙ mul_comm (length zs) ∣ v ∣)
-        ∙ nearest-whole ∣ v ∣ (length zs) some
+        ap (λ (a : ℕ). nearest_up a (length zs)) (abs-mul (pos (length zs)) v ∙ mul_comm (length zs) ∣ v ∣)
+        ∙ nearest_whole ∣ v ∣ (length zs) some
 
 -- THE ORDER DOES NOT MATTER TO THE MEAN
-pub mean-perm : {us vs : List ℤ} → Permᴰ us vs → mean us ≡ mean vs
-mean-perm d = rw (sum-perm d, length-perm d)
+pub mean_perm : {us vs : List ℤ} → Permᴰ us vs → mean us ≡ mean vs
+mean_perm d = rw (sum_perm d, length_perm d)

@@ -6,5 +6,5 @@ use Rattle.shade.proofs.shade_judge_lab.Tie as tie
 returns : tie.Need-returns
 returns c = c.before.before.judge-call.ensures
 
-pub shade-judge-lab-spec : {M : Type 1} → statement M
-shade-judge-lab-spec = tie.close (tie.spec (λ c κs. search rules) (λ c. search rules) returns)
+pub shade_judge_lab_spec : {M : Type 1} → statement M
+shade_judge_lab_spec = tie.close (tie.spec (λ c κs. search rules) (λ c. search rules) returns)

@@ -6,5 +6,5 @@ use Rattle.shade.proofs.shade_load_xyz.Tie as tie
 returns : tie.Need-returns
 returns c = c.before.before.load-call.ensures
 
-pub shade-load-xyz-spec : {M : Type 1} → statement M
-shade-load-xyz-spec = tie.close (tie.spec (λ c κs. search rules) (λ c. search rules) returns)
+pub shade_load_xyz_spec : {M : Type 1} → statement M
+shade_load_xyz_spec = tie.close (tie.spec (λ c κs. search rules) (λ c. search rules) returns)

@@ -6,5 +6,5 @@ use Rattle.shade.proofs.shade_sort_xyz.Tie as tie
 returns : tie.Need-returns
 returns c = c.before.before.sort.ensures
 
-pub shade-sort-xyz-spec : {M : Type 1} → statement M
-shade-sort-xyz-spec = tie.close (tie.spec (λ c κs. search rules) (λ c. search rules) returns)
+pub shade_sort_xyz_spec : {M : Type 1} → statement M
+shade_sort_xyz_spec = tie.close (tie.spec (λ c κs. search rules) (λ c. search rules) returns)

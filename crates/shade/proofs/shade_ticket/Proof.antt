@@ -6,5 +6,5 @@ use Rattle.shade.proofs.shade_ticket.Tie as tie
 returns : tie.Need-returns
 returns c = c.before.before.ticket-call.ensures
 
-pub shade-ticket-spec : {M : Type 1} → statement M
-shade-ticket-spec = tie.close (tie.spec (λ c κs. search rules) (λ c. search rules) returns)
+pub shade_ticket_spec : {M : Type 1} → statement M
+shade_ticket_spec = tie.close (tie.spec (λ c κs. search rules) (λ c. search rules) returns)

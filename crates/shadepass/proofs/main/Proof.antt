@@ -2,18 +2,18 @@
 use mathlib.Core.Path.{sym}
 use borrow.Author.Rules.{rules}
 use lib.Seq.{length-take-le}
-use Rattle.printing.specs.Printed.Laws.{prints-le}
+use Rattle.printing.specs.Printed.Laws.{prints_le}
 use Rattle.shadepass.proofs.main.Statement.{statement}
 use Rattle.shadepass.proofs.main.Tie as tie
 
 part-within : tie.Need-array-share-prefix-out
-part-within c = prints-le c.before.printed.ensures
+part-within c = prints_le c.before.printed.ensures
 
 part_length : tie.Need-slice-aggregate-write-all
 part_length c =
     let at-printed = c.before.before in
     sym (length-take-le at-printed.printed.result at-printed.printed.new.1.0
-    (prints-le at-printed.printed.ensures))
+    (prints_le at-printed.printed.ensures))
 
 pub main_spec : {M : Type 1} → statement M
 main_spec =

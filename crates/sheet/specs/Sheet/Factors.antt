@@ -2,12 +2,12 @@
 -- that did not fail before. At every n, under each formula. Assumes nothing.
 use Rattle.std.specs.Prelude.{◌≡◌, ◌⊎◌, ℕ, ◌*◌, ◌/◌, ◌^◌, ◌≤◌, ◌<◌, ℤ}
 use Rattle.std.proofs.Common.{inl, inr, eq-zero-or-pos, mul-pos, mul-zero, mul-le-mul, mul-le-mul_right, arith}
-use Rattle.rounding.specs.Fraction.{div-antitone}
-use Rattle.rounding.specs.Root.Laws.{root-mono}
+use Rattle.rounding.specs.Fraction.{div_antitone}
+use Rattle.rounding.specs.Root.Laws.{root_mono}
 use Rattle.rounding.specs.Signed.{∣◌∣}
 use Rattle.colour.specs.declared.conversion.GridColour.{GridColour}
-use Rattle.sheet.specs.Sheet.{component, total, factorUnder, differences, sheet, verdict}
-use Rattle.sheet.specs.Sheet.Facts.{factorUnder-pos, below-of-pass, above-of-fail}
+use Rattle.sheet.specs.Sheet.{component, total, factor_under, differences, sheet, verdict}
+use Rattle.sheet.specs.Sheet.Facts.{factor_under-pos, below_of_pass, above_of_fail}
 use Rattle.sheet.specs.Sheet.Laws.{abs-change, abs-component, compared-pass, compared-fail}
 use Rattle.sheet.specs.declared.formula.Formula.{Formula}
 use Rattle.sheet.specs.declared.formula.Formula.TheVariants.{CIELAB, CIE94, CMC}
@@ -20,19 +20,19 @@ component-le n S Δ {l} {k} some le = rw (abs-component n k S Δ, abs-component 
   where
     either : (S ≡ 0) ⊎ (0 < S) → 1000 * 2 ^ n * ∣ Δ ∣ / (k * S) ≤ 1000 * 2 ^ n * ∣ Δ ∣ / (l * S)
     either (inl z) = rw (z, mul-zero k, mul-zero l) (omega arith)
-    either (inr p) = div-antitone (1000 * 2 ^ n * ∣ Δ ∣) (mul-pos some p) (mul-le-mul_right S le)
+    either (inr p) = div_antitone (1000 * 2 ^ n * ∣ Δ ∣) (mul-pos some p) (mul-le-mul_right S le)
 
 total-le :
     (DL EL DC EC DH : ℤ) → ∣ EL ∣ ≤ ∣ DL ∣ → ∣ EC ∣ ≤ ∣ DC ∣ → total EL EC DH ≤ total DL DC DH
 unfolding total
-total-le DL EL DC EC DH hl hc = root-mono 2 (omega arith) (omega (arith, mul-le-mul hl hl, mul-le-mul hc hc))
+total-le DL EL DC EC DH hl hc = root_mono 2 (omega arith) (omega (arith, mul-le-mul hl hl, mul-le-mul hc hc))
 
 -- ---- the sheet
 
-factorUnder-le : (f : Formula) {l k : ℕ} → l ≤ k → factorUnder f l ≤ factorUnder f k
-factorUnder-le CIELAB h = omega arith
-factorUnder-le CIE94 h = h
-factorUnder-le CMC h = h
+factor_under-le : (f : Formula) {l k : ℕ} → l ≤ k → factor_under f l ≤ factor_under f k
+factor_under-le CIELAB h = omega arith
+factor_under-le CIE94 h = h
+factor_under-le CMC h = h
 
 module _
     (n : ℕ) (f : Formula) {l c k e : ℕ} (l-some : 0 < l) (c-some : 0 < c) (l_le : l ≤ k) (c-le : c ≤ e)
@@ -45,24 +45,24 @@ module _
     abbrev pub DE' : ℕ
     DE' = (sheet n f k e R T).DE
 
-    pub DE-no-larger : DE' ≤ DE
+    pub DE_no_larger : DE' ≤ DE
     unfolding sheet differences
-    DE-no-larger =
+    DE_no_larger =
         total-le _ _ _ _ _
-        (component-le n _ _ (factorUnder-pos f l-some) (factorUnder-le f l_le))
-        (component-le n _ _ (factorUnder-pos f c-some) (factorUnder-le f c-le))
+        (component-le n _ _ (factor_under-pos f l-some) (factor_under-le f l_le))
+        (component-le n _ _ (factor_under-pos f c-some) (factor_under-le f c-le))
 
     module _ (tolerance : ℕ) where
       pub pass-stays : verdict n tolerance DE ≡ Pass → verdict n tolerance DE' ≡ Pass
       unfolding verdict
       pass-stays h =
-          let below = below-of-pass n tolerance DE h in
+          let below = below_of_pass n tolerance DE h in
           compared-pass n (tolerance * 2 ^ n) (1000 * DE')
-          (omega (arith, DE-no-larger, abs-change (tolerance * 2 ^ n) (1000 * DE'))) (omega (arith, DE-no-larger))
+          (omega (arith, DE_no_larger, abs-change (tolerance * 2 ^ n) (1000 * DE'))) (omega (arith, DE_no_larger))
 
-      pub no-new-fail : verdict n tolerance DE' ≡ Fail → verdict n tolerance DE ≡ Fail
+      pub no_new_fail : verdict n tolerance DE' ≡ Fail → verdict n tolerance DE ≡ Fail
       unfolding verdict
-      no-new-fail h =
-          let above = above-of-fail n tolerance DE' h in
+      no_new_fail h =
+          let above = above_of_fail n tolerance DE' h in
           compared-fail n (tolerance * 2 ^ n) (1000 * DE)
-          (omega (arith, DE-no-larger, abs-change (tolerance * 2 ^ n) (1000 * DE))) (omega (arith, DE-no-larger))
+          (omega (arith, DE_no_larger, abs-change (tolerance * 2 ^ n) (1000 * DE))) (omega (arith, DE_no_larger))

@@ -9,16 +9,16 @@ use native.Mathlib.Omega.{arith}
 use borrow.Author.Tests.{lt-ltb, le-ltb, le-leb, lt-leb, ne_eqb}
 use Rattle.std.proofs.Math.Dec.{eqb}
 use Rattle.rounding.specs.Fraction.{le-div, div-le}
-use Rattle.rounding.specs.Root.Laws.{le-root, root-lt, root-at, sq, sqrt-low}
-use Rattle.rounding.specs.Signed.Difference.{diff-abs, diff-sub, diff-parts}
+use Rattle.rounding.specs.Root.Laws.{le-root, root-lt, root_at, sq, sqrt_low}
+use Rattle.rounding.specs.Signed.Difference.{diff_abs, diff_sub, diff_parts}
 use Rattle.rounding.specs.Signed.Laws.{abs-add-le, abs-sub-le, abs-mul, abs-quotient}
 use Rattle.rounding.specs.Signed.{∣◌∣, square, minus, signed, ◌·◌}
 use Rattle.colour.specs.Conversion.{Lab}
 use Rattle.sheet.specs.Ranges.{Both}
-use Rattle.sheet.specs.Sheet.{chroma, chromaOf, sameHue, hueChange, semiAxisL, semiAxisC, hueQ, hueW, hueF}
-use Rattle.sheet.specs.Sheet.{secondForm, hueM, hueT, hueP, hueG, semiAxisH, hueSemiAxis}
-use Rattle.sheet.specs.Sheet.{semiAxesCIELAB, semiAxesCIE94, semiAxesCMC, semiAxes, change, component, componentH}
-use Rattle.sheet.specs.Sheet.{compared, verdict, differenceOn, toleranceOn, verdictOn}
+use Rattle.sheet.specs.Sheet.{chroma, chroma_of, same_hue, hue_change, semi_axis_l, semi_axis_c, hue_q, hue_w, hue_f}
+use Rattle.sheet.specs.Sheet.{second_form, hue_m, hue_t, hue_p, hue_g, semi_axis_h, hue_semi_axis}
+use Rattle.sheet.specs.Sheet.{semi_axes_cielab, semi_axes_cie94, semi_axes_cmc, semi_axes, change, component, component_h}
+use Rattle.sheet.specs.Sheet.{compared, verdict, difference_on, tolerance_on, verdict_on}
 use Rattle.sheet.specs.declared.formula.Formula.{Formula}
 use Rattle.sheet.specs.declared.formula.Formula.TheVariants.{CIELAB, CIE94, CMC}
 use Rattle.sheet.specs.declared.verdict.Verdict.TheVariants.{Near, Pass, Fail}
@@ -32,40 +32,40 @@ module _ (a b : ℤ) where
       root-lt 2 _ (2 ^ 29) (omega arith)
       (omega (arith, mul-le-mul h.first h.first, mul-le-mul h.second h.second))
 
-  pub abs-a-le-chroma : ∣ a ∣ ≤ chroma a b
+  pub abs_a_le_chroma : ∣ a ∣ ≤ chroma a b
   unfolding chroma
-  abs-a-le-chroma = le-root 2 _ ∣ a ∣ (omega arith) (rw sq (omega arith))
+  abs_a_le_chroma = le-root 2 _ ∣ a ∣ (omega arith) (rw sq (omega arith))
 
-  pub abs-b-le-chroma : ∣ b ∣ ≤ chroma a b
+  pub abs_b_le_chroma : ∣ b ∣ ≤ chroma a b
   unfolding chroma
-  abs-b-le-chroma = le-root 2 _ ∣ b ∣ (omega arith) (rw sq (omega arith))
+  abs_b_le_chroma = le-root 2 _ ∣ b ∣ (omega arith) (rw sq (omega arith))
 
   pub chroma-pos : 0 < square a + square b → 0 < chroma a b
   unfolding chroma
   chroma-pos h = le-root 2 _ 1 (omega arith) (rw sq h)
 
   -- C is 0 for a neutral colour alone
-  pub neutral-of-chroma : chroma a b ≡ 0 → square a + square b ≡ 0
-  neutral-of-chroma e = either (eq-zero-or-pos (square a + square b))
+  pub neutral_of_chroma : chroma a b ≡ 0 → square a + square b ≡ 0
+  neutral_of_chroma e = either (eq-zero-or-pos (square a + square b))
     where
       either : (square a + square b ≡ 0) ⊎ (0 < square a + square b) → square a + square b ≡ 0
       either (inl z) = z
       either (inr p) = absurd (omega (arith, chroma-pos p))
 
-  pub chromatic-of-chroma : 0 < chroma a b → 0 < square a + square b
+  pub chromatic_of_chroma : 0 < chroma a b → 0 < square a + square b
   unfolding chroma
-  chromatic-of-chroma h = omega (arith, sqrt-low (square a + square b), mul-le-mul h h)
+  chromatic_of_chroma h = omega (arith, sqrt_low (square a + square b), mul-le-mul h h)
 
 -- ---- line 3: its two branches
 
 module _ (n : ℕ) {L : ℕ} where
-  pub semiAxisL-dark : L < 16 * 2 ^ n → semiAxisL n L ≡ 511 * 2 ^ n / 1000
-  unfolding semiAxisL
-  semiAxisL-dark dark = rw (lt-ltb _ _ dark)
+  pub semi_axis_l-dark : L < 16 * 2 ^ n → semi_axis_l n L ≡ 511 * 2 ^ n / 1000
+  unfolding semi_axis_l
+  semi_axis_l-dark dark = rw (lt-ltb _ _ dark)
 
-  pub semiAxisL-light : 16 * 2 ^ n ≤ L → semiAxisL n L ≡ 40975 * L * 2 ^ n / (1000000 * 2 ^ n + 17650 * L)
-  unfolding semiAxisL
-  semiAxisL-light light = rw (le-ltb _ _ light)
+  pub semi_axis_l-light : 16 * 2 ^ n ≤ L → semi_axis_l n L ≡ 40975 * L * 2 ^ n / (1000000 * 2 ^ n + 17650 * L)
+  unfolding semi_axis_l
+  semi_axis_l-light light = rw (le-ltb _ _ light)
 
 -- SL is at least 0.511, rounded down, and at most 3: over u units to 1
 le-light : (u L : ℕ) → 0 < u → 16 * u ≤ L → 511 * u / 1000 ≤ 40975 * L * u / (1000000 * u + 17650 * L)
@@ -78,106 +78,106 @@ light-le : (u L : ℕ) → 0 < u → 40975 * L * u / (1000000 * u + 17650 * L) �
 light-le u L hu = div-le _ _ _ (omega arith) (omega arith)
 
 module _ (n L : ℕ) where
-  pub le-semiAxisL : 511 * 2 ^ n / 1000 ≤ semiAxisL n L
-  le-semiAxisL = either (dec_lt L (16 * 2 ^ n))
+  pub le-semi_axis_l : 511 * 2 ^ n / 1000 ≤ semi_axis_l n L
+  le-semi_axis_l = either (dec_lt L (16 * 2 ^ n))
     where
-      either : Dec (L < 16 * 2 ^ n) → 511 * 2 ^ n / 1000 ≤ semiAxisL n L
-      either (yes h) = rw (semiAxisL-dark n h) (le_refl _)
+      either : Dec (L < 16 * 2 ^ n) → 511 * 2 ^ n / 1000 ≤ semi_axis_l n L
+      either (yes h) = rw (semi_axis_l-dark n h) (le_refl _)
       either (no h) =
-          let g : 16 * 2 ^ n ≤ L = omega arith in rw (semiAxisL-light n g) (le-light (2 ^ n) L (pow_pos n) g)
+          let g : 16 * 2 ^ n ≤ L = omega arith in rw (semi_axis_l-light n g) (le-light (2 ^ n) L (pow_pos n) g)
 
-  pub semiAxisL-le : semiAxisL n L ≤ 3 * 2 ^ n
-  semiAxisL-le = either (dec_lt L (16 * 2 ^ n))
+  pub semi_axis_l-le : semi_axis_l n L ≤ 3 * 2 ^ n
+  semi_axis_l-le = either (dec_lt L (16 * 2 ^ n))
     where
-      either : Dec (L < 16 * 2 ^ n) → semiAxisL n L ≤ 3 * 2 ^ n
-      either (yes h) = rw (semiAxisL-dark n h) (omega arith)
-      either (no h) = let g : 16 * 2 ^ n ≤ L = omega arith in rw (semiAxisL-light n g) (light-le (2 ^ n) L (pow_pos n))
+      either : Dec (L < 16 * 2 ^ n) → semi_axis_l n L ≤ 3 * 2 ^ n
+      either (yes h) = rw (semi_axis_l-dark n h) (omega arith)
+      either (no h) = let g : 16 * 2 ^ n ≤ L = omega arith in rw (semi_axis_l-light n g) (light-le (2 ^ n) L (pow_pos n))
 
 -- ---- line 4: SC is at least 0.638, rounded down, and at most 6
 
 module _ (n C : ℕ) where
-  pub le-semiAxisC : 638 * 2 ^ n / 1000 ≤ semiAxisC n C
-  unfolding semiAxisC
-  le-semiAxisC =
+  pub le-semi_axis_c : 638 * 2 ^ n / 1000 ≤ semi_axis_c n C
+  unfolding semi_axis_c
+  le-semi_axis_c =
       le-div _ _ _ (omega (arith, pow_pos n))
       (omega (arith, mul-le-mul_right (10000 * 2 ^ n + 131 * C) (div-mul-le_self (638 * 2 ^ n) 1000)))
 
-  pub semiAxisC-le : semiAxisC n C ≤ 6 * 2 ^ n
-  unfolding semiAxisC
-  semiAxisC-le = div-le _ _ _ (omega (arith, pow_pos n)) (omega (arith, pow_pos n))
+  pub semi_axis_c-le : semi_axis_c n C ≤ 6 * 2 ^ n
+  unfolding semi_axis_c
+  semi_axis_c-le = div-le _ _ _ (omega (arith, pow_pos n)) (omega (arith, pow_pos n))
 
 -- ---- line 5: F is at most 1
 
 module _ (n Q : ℕ) where
-  pub le-hueW : Q ≤ hueW n Q
-  unfolding hueW
-  le-hueW = le-root 2 _ Q (omega arith) (rw sq (omega arith))
+  pub le-hue_w : Q ≤ hue_w n Q
+  unfolding hue_w
+  le-hue_w = le-root 2 _ Q (omega arith) (rw sq (omega arith))
 
-  pub hueW-pos : 0 < hueW n Q
-  unfolding hueW
-  hueW-pos = le-root 2 _ 1 (omega arith) (omega (arith, mul-pos (pow_pos (n - 7)) (pow_pos (n - 7))))
+  pub hue_w-pos : 0 < hue_w n Q
+  unfolding hue_w
+  hue_w-pos = le-root 2 _ 1 (omega arith) (omega (arith, mul-pos (pow_pos (n - 7)) (pow_pos (n - 7))))
 
-  pub hueF-le : hueF n Q (hueW n Q) ≤ 2 ^ n
-  unfolding hueF
-  hueF-le = div-le _ _ _ hueW-pos (omega (arith, hueW-pos, mul-le-mul_right (2 ^ n) le-hueW))
+  pub hue_f-le : hue_f n Q (hue_w n Q) ≤ 2 ^ n
+  unfolding hue_f
+  hue_f-le = div-le _ _ _ hue_w-pos (omega (arith, hue_w-pos, mul-le-mul_right (2 ^ n) le-hue_w))
 
-pub hueQ-le : {a b : ℤ} → Both (2 ^ 28) a b → hueQ 20 a b ≤ 2 ^ 30
-unfolding hueQ
-hueQ-le h = omega (arith, mul-le-mul h.first h.first, mul-le-mul h.second h.second)
+pub hue_q-le : {a b : ℤ} → Both (2 ^ 28) a b → hue_q 20 a b ≤ 2 ^ 30
+unfolding hue_q
+hue_q-le h = omega (arith, mul-le-mul h.first h.first, mul-le-mul h.second h.second)
 
 -- ---- line 6: |a| and |b| are at most C, so T is at most 1; it is at least 0.36, rounded down
 
 abs-times : (k : ℕ) (z : ℤ) → ∣ k · z ∣ ≡ k * ∣ z ∣
 abs-times k z = abs-mul (pos k) z
 
-pub hueM-le : (second : Bool) (a b : ℤ) → hueM second a b ≤ 139272848 * chroma a b
-unfolding hueM
-hueM-le false a b =
+pub hue_m-le : (second : Bool) (a b : ℤ) → hue_m second a b ≤ 139272848 * chroma a b
+unfolding hue_m
+hue_m-le false a b =
     omega (
       arith,
       abs-sub-le (81915204 · a) (57357644 · b),
       abs-times 81915204 a,
       abs-times 57357644 b,
-      abs-a-le-chroma a b,
-      abs-b-le-chroma a b,
+      abs_a_le_chroma a b,
+      abs_b_le_chroma a b,
     )
-hueM-le true a b =
+hue_m-le true a b =
     omega (
       arith,
       abs-add-le (97814760 · a) (20791169 · b),
       abs-times 97814760 a,
       abs-times 20791169 b,
-      abs-a-le-chroma a b,
-      abs-b-le-chroma a b,
+      abs_a_le_chroma a b,
+      abs_b_le_chroma a b,
     )
 
 module _ (n M C : ℕ) (some : 0 < C) where
-  pub hueT-le : (second : Bool) → M ≤ 139272848 * C → hueT n second M C ≤ 2 ^ n
-  unfolding hueT
-  hueT-le false h = div-le _ _ _ (omega arith) (omega (arith, mul-le-mul_right (2 ^ n) h))
-  hueT-le true h = div-le _ _ _ (omega arith) (omega (arith, mul-le-mul_right (2 ^ n) h))
+  pub hue_t-le : (second : Bool) → M ≤ 139272848 * C → hue_t n second M C ≤ 2 ^ n
+  unfolding hue_t
+  hue_t-le false h = div-le _ _ _ (omega arith) (omega (arith, mul-le-mul_right (2 ^ n) h))
+  hue_t-le true h = div-le _ _ _ (omega arith) (omega (arith, mul-le-mul_right (2 ^ n) h))
 
-  pub le-hueT : (second : Bool) → 36 * 2 ^ n / 100 ≤ hueT n second M C
-  unfolding hueT
-  le-hueT false =
+  pub le-hue_t : (second : Bool) → 36 * 2 ^ n / 100 ≤ hue_t n second M C
+  unfolding hue_t
+  le-hue_t false =
       le-div _ _ _ (omega arith) (omega (arith, mul-le-mul_right (10000000 * C) (div-mul-le_self (36 * 2 ^ n) 100)))
-  le-hueT true =
+  le-hue_t true =
       le-div _ _ _ (omega arith) (omega (arith, mul-le-mul_right (10000000 * C) (div-mul-le_self (36 * 2 ^ n) 100)))
 
-pub hueT-of-le :
-    (n : ℕ) (a b : ℤ) {C : ℕ} → C ≡ chroma a b → 0 < C → (second : Bool) → hueT n second (hueM second a b) C ≤ 2 ^ n
-hueT-of-le n a b {C} is some second = hueT-le n (hueM second a b) C some second (rw is (hueM-le second a b))
+pub hue_t_of_le :
+    (n : ℕ) (a b : ℤ) {C : ℕ} → C ≡ chroma a b → 0 < C → (second : Bool) → hue_t n second (hue_m second a b) C ≤ 2 ^ n
+hue_t_of_le n a b {C} is some second = hue_t-le n (hue_m second a b) C some second (rw is (hue_m-le second a b))
 
 -- ---- line 7: T is at most G, and G at most 1
 
-module _ (n : ℕ) {F T : ℕ} (hF : F ≤ 2 ^ n) (hT : T ≤ 2 ^ n) where
-  pub hueP-le : hueP n F T ≤ F
-  unfolding hueP
-  hueP-le = div-le _ _ _ (pow_pos n) (omega (arith, mul-le-mul_left F hT, pow_pos n))
+module _ (n : ℕ) {F T : ℕ} (h_f : F ≤ 2 ^ n) (h_t : T ≤ 2 ^ n) where
+  pub hue_p-le : hue_p n F T ≤ F
+  unfolding hue_p
+  hue_p-le = div-le _ _ _ (pow_pos n) (omega (arith, mul-le-mul_left F h_t, pow_pos n))
 
-  pub hueG-le : hueG n (hueP n F T) F ≤ 2 ^ n
-  unfolding hueG
-  hueG-le = omega (arith, hueP-le)
+  pub hue_g-le : hue_g n (hue_p n F T) F ≤ 2 ^ n
+  unfolding hue_g
+  hue_g-le = omega (arith, hue_p-le)
 
   -- (1 - F)(1 - T) is not negative
   product : F * 2 ^ n + 2 ^ n * T ≤ 2 ^ n * 2 ^ n + F * T
@@ -193,37 +193,37 @@ module _ (n : ℕ) {F T : ℕ} (hF : F ≤ 2 ^ n) (hT : T ≤ 2 ^ n) where
             ap (λ (z : ℕ). z * u) e,
           )
 
-  pub le-hueG : T ≤ hueG n (hueP n F T) F
-  unfolding hueG hueP
-  le-hueG =
+  pub le-hue_g : T ≤ hue_g n (hue_p n F T) F
+  unfolding hue_g hue_p
+  le-hue_g =
       let sum : T + F < F * T / 2 ^ n + 2 ^ n + 1 =
       lt_of_mul-lt-mul_right (2 ^ n) (omega (arith, product, lt-div-mul-add {a = F * T} (pow_pos n))) in
       omega arith
 
 -- SH is at most SC
 module _ (n : ℕ) {SC G : ℕ} where
-  pub semiAxisH-le : G ≤ 2 ^ n → semiAxisH n SC G ≤ SC
-  unfolding semiAxisH
-  semiAxisH-le h = div-le _ _ _ (pow_pos n) (omega (arith, mul-le-mul_left SC h, pow_pos n))
+  pub semi_axis_h-le : G ≤ 2 ^ n → semi_axis_h n SC G ≤ SC
+  unfolding semi_axis_h
+  semi_axis_h-le h = div-le _ _ _ (pow_pos n) (omega (arith, mul-le-mul_left SC h, pow_pos n))
 
-semiAxisH-one : (n SC : ℕ) → SC ≡ semiAxisH n SC (2 ^ n)
-unfolding semiAxisH
-semiAxisH-one n SC = sym (mul-div_cancel SC (pow_pos n))
+semi_axis_h_one : (n SC : ℕ) → SC ≡ semi_axis_h n SC (2 ^ n)
+unfolding semi_axis_h
+semi_axis_h_one n SC = sym (mul-div_cancel SC (pow_pos n))
 
 -- ---- lines 5 to 7 together
 
 module _ (n : ℕ) (a b : ℤ) (C SC : ℕ) where
-  pub hueSemiAxis-neutral : square a + square b ≡ 0 → hueSemiAxis n a b C SC ≡ SC
-  unfolding hueSemiAxis
-  hueSemiAxis-neutral h = rw h
+  pub hue_semi_axis-neutral : square a + square b ≡ 0 → hue_semi_axis n a b C SC ≡ SC
+  unfolding hue_semi_axis
+  hue_semi_axis-neutral h = rw h
 
-  pub hueSemiAxis-chromatic :
+  pub hue_semi_axis-chromatic :
       0 < square a + square b →
-      let F : ℕ = hueF n (hueQ n a b) (hueW n (hueQ n a b)) in
-      let T : ℕ = hueT n (secondForm a b) (hueM (secondForm a b) a b) C in
-      hueSemiAxis n a b C SC ≡ semiAxisH n SC (hueG n (hueP n F T) F)
-  unfolding hueSemiAxis
-  hueSemiAxis-chromatic h = rw (pos-eqb _ h)
+      let F : ℕ = hue_f n (hue_q n a b) (hue_w n (hue_q n a b)) in
+      let T : ℕ = hue_t n (second_form a b) (hue_m (second_form a b) a b) C in
+      hue_semi_axis n a b C SC ≡ semi_axis_h n SC (hue_g n (hue_p n F T) F)
+  unfolding hue_semi_axis
+  hue_semi_axis-chromatic h = rw (pos-eqb _ h)
     where
       pos-eqb : (x : ℕ) → 0 < x → eqb x 0 ≡ false
       pos-eqb x h = ne_eqb x 0 (λ e. omega arith)
@@ -233,10 +233,10 @@ pub record ByG (n : ℕ) (a b : ℤ) (SC : ℕ) : Type 0 where
   pub G : ℕ
   pub low : 36 * 2 ^ n / 100 ≤ G
   pub high : G ≤ 2 ^ n
-  pub is : hueSemiAxis n a b (chroma a b) SC ≡ semiAxisH n SC G
+  pub is : hue_semi_axis n a b (chroma a b) SC ≡ semi_axis_h n SC G
 
-pub hueSemiAxis-by-G : (n : ℕ) (a b : ℤ) (SC : ℕ) → ByG n a b SC
-hueSemiAxis-by-G n a b SC = either (eq-zero-or-pos (square a + square b))
+pub hue_semi_axis_by_G : (n : ℕ) (a b : ℤ) (SC : ℕ) → ByG n a b SC
+hue_semi_axis_by_G n a b SC = either (eq-zero-or-pos (square a + square b))
   where
     either : (square a + square b ≡ 0) ⊎ (0 < square a + square b) → ByG n a b SC
     either (inl z) =
@@ -244,42 +244,42 @@ hueSemiAxis-by-G n a b SC = either (eq-zero-or-pos (square a + square b))
           G = 2 ^ n;
           low = omega arith;
           high = le_refl (2 ^ n);
-          is = hueSemiAxis-neutral n a b (chroma a b) SC z
-              ∙ semiAxisH-one n SC;
+          is = hue_semi_axis-neutral n a b (chroma a b) SC z
+              ∙ semi_axis_h_one n SC;
         }
     either (inr p) =
-        let s : Bool = secondForm a b in
-        let F≤1 = hueF-le n (hueQ n a b) in
+        let s : Bool = second_form a b in
+        let F≤1 = hue_f-le n (hue_q n a b) in
         let C>0 = chroma-pos a b p in
-        let T≤1 = hueT-le n (hueM s a b) (chroma a b) C>0 s (hueM-le s a b) in
+        let T≤1 = hue_t-le n (hue_m s a b) (chroma a b) C>0 s (hue_m-le s a b) in
         record {
           G = _;
-          low = le_trans (le-hueT n (hueM s a b) (chroma a b) C>0 s) (le-hueG n F≤1 T≤1);
-          high = hueG-le n F≤1 T≤1;
-          is = hueSemiAxis-chromatic n a b (chroma a b) SC p;
+          low = le_trans (le-hue_t n (hue_m s a b) (chroma a b) C>0 s) (le-hue_g n F≤1 T≤1);
+          high = hue_g-le n F≤1 T≤1;
+          is = hue_semi_axis-chromatic n a b (chroma a b) SC p;
         }
 
 -- ---- the semi-axes hold the reference's C, whatever the formula
 
-pub semi-axes-C : (n : ℕ) (f : Formula) (R : Lab) → (semiAxes n f R).C ≡ chromaOf R
-unfolding semiAxes semiAxesCIELAB semiAxesCIE94 semiAxesCMC
-semi-axes-C n CIELAB R = refl
-semi-axes-C n CIE94 R = refl
-semi-axes-C n CMC R = refl
+pub semi_axes_C : (n : ℕ) (f : Formula) (R : Lab) → (semi_axes n f R).C ≡ chroma_of R
+unfolding semi_axes semi_axes_cielab semi_axes_cie94 semi_axes_cmc
+semi_axes_C n CIELAB R = refl
+semi_axes_C n CIE94 R = refl
+semi_axes_C n CMC R = refl
 
 -- ---- lines 1 and 2: the shift between two colours
 
 pub abs-change : (R T : ℕ) → ∣ change R T ∣ ≡ (T - R) + (R - T)
-abs-change R T = omega (arith, diff-abs (diff-sub (diff-parts (pos T)) (diff-parts (pos R))))
+abs-change R T = omega (arith, diff_abs (diff_sub (diff_parts (pos T)) (diff_parts (pos R))))
 
 pub change-le : (m : ℕ) {R T : ℕ} → R ≤ m → T ≤ m → ∣ change R T ∣ ≤ m
 change-le m {R} {T} h g = omega (arith, abs-change R T)
 
 -- no change where ΔC² is not below D²
-pub hueChange-zero : (D² : ℕ) (ΔC x y : ℤ) → D² ≤ square ΔC → hueChange D² ΔC x y ≡ pos 0
-unfolding hueChange
-hueChange-zero D² ΔC x y h =
-    let none : D² - square ΔC ≡ 0 = omega arith in rw (none, root-at 2 0 0 tt tt tt) (either (sameHue x y) (minus x))
+pub hue_change-zero : (D² : ℕ) (ΔC x y : ℤ) → D² ≤ square ΔC → hue_change D² ΔC x y ≡ pos 0
+unfolding hue_change
+hue_change-zero D² ΔC x y h =
+    let none : D² - square ΔC ≡ 0 = omega arith in rw (none, root_at 2 0 0 tt tt tt) (either (same_hue x y) (minus x))
   where
     either : (same below : Bool) → cond same (pos 0) (signed below 0) ≡ pos 0
     either true below = refl
@@ -292,9 +292,9 @@ pub abs-component : (n l S : ℕ) (Δ : ℤ) → ∣ component n l S Δ ∣ ≡ 
 unfolding component
 abs-component n l S Δ = abs-quotient (1000 * 2 ^ n) (l * S) Δ (omega (arith, pow_pos n))
 
-pub abs-componentH : (n S : ℕ) (Δ : ℤ) → ∣ componentH n S Δ ∣ ≡ 2 ^ n * ∣ Δ ∣ / S
-unfolding componentH
-abs-componentH n S Δ = abs-quotient (2 ^ n) S Δ (pow_pos n)
+pub abs-component_h : (n S : ℕ) (Δ : ℤ) → ∣ component_h n S Δ ∣ ≡ 2 ^ n * ∣ Δ ∣ / S
+unfolding component_h
+abs-component_h n S Δ = abs-quotient (2 ^ n) S Δ (pow_pos n)
 
 -- ---- the verdict: which of the three it is, by the places of DE and the tolerance
 
@@ -312,10 +312,10 @@ module _ (n tolerance DE : ℕ) where
   compared-fail h g = rw (lt-leb _ _ h, le-ltb _ _ g)
 
 -- a tolerance and a DE of one formula are compared, whichever it is
-pub one-scale :
-    (n : ℕ) (f : Formula) (tolerance DE : ℕ) → verdictOn n (toleranceOn n f tolerance) (differenceOn f DE)
+pub one_scale :
+    (n : ℕ) (f : Formula) (tolerance DE : ℕ) → verdict_on n (tolerance_on n f tolerance) (difference_on f DE)
     ≡ verdict n tolerance DE
-unfolding verdictOn verdict
-one-scale n CIELAB tolerance DE = refl
-one-scale n CIE94 tolerance DE = refl
-one-scale n CMC tolerance DE = refl
+unfolding verdict_on verdict
+one_scale n CIELAB tolerance DE = refl
+one_scale n CIE94 tolerance DE = refl
+one_scale n CMC tolerance DE = refl

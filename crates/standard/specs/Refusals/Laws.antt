@@ -4,14 +4,14 @@ use Rattle.std.specs.Prelude.{◌≡◌, refl, Bool, true, false, cond, ℕ, eqb
 use Rattle.std.proofs.Common.{sym, ap, ◌∙◌, eqb-true, ne_eqb}
 use mathlib.Core.List.{List, [], ◌∷◌, ◌++◌, map}
 use Rattle.std.proofs.lemmas.Bool.{eqb-false}
-use Rattle.standard.specs.Refusals.{Place, atText, atStation, atCount, atFormula, atWhite, atL, atC}
-use Rattle.standard.specs.Refusals.{atTolerance, atReference, atTest, atRoom}
+use Rattle.standard.specs.Refusals.{Place, at_text, at_station, at_count, at_formula, at_white, at_l, at_c}
+use Rattle.standard.specs.Refusals.{at_tolerance, at_reference, at_test, at_room}
 use Rattle.standard.specs.Refusals.{place-discrete, order, Fault, either, number_at, first, first_of, refusal}
 
 -- ---- the first of two, and of a list
 
-pub first-zero : (n : ℕ) → first n 0 ≡ n
-first-zero n = go (eqb n 0) refl
+pub first_zero : (n : ℕ) → first n 0 ≡ n
+first_zero n = go (eqb n 0) refl
   where
     go : (b : Bool) → eqb n 0 ≡ b → cond b 0 n ≡ n
     go true e = sym (eqb-true n 0 e)
@@ -20,18 +20,18 @@ first-zero n = go (eqb n 0) refl
 pub first_some : {n : ℕ} (m : ℕ) → (n ≡ 0 → ⊥) → first n m ≡ n
 first_some {n} m h = rw (ne_eqb n 0 h)
 
-pub first-none : (n m : ℕ) → first n m ≡ 0 → (n ≡ 0) × (m ≡ 0)
-first-none n m = go (eqb n 0) refl
+pub first_none : (n m : ℕ) → first n m ≡ 0 → (n ≡ 0) × (m ≡ 0)
+first_none n m = go (eqb n 0) refl
   where
     go : (b : Bool) → eqb n 0 ≡ b → cond b m n ≡ 0 → (n ≡ 0) × (m ≡ 0)
     go true e h = (eqb-true n 0 e, h)
     go false e h = absurd (eqb-false n 0 e h)
 
 -- of two lists, one after the other
-pub firstOf-append : (ms ns : List ℕ) → first_of (ms ++ ns) ≡ first (first_of ms) (first_of ns)
+pub first_of-append : (ms ns : List ℕ) → first_of (ms ++ ns) ≡ first (first_of ms) (first_of ns)
 unfolding first_of
-firstOf-append [] ns = refl
-firstOf-append (m ∷ ms) ns = go (eqb m 0) refl (firstOf-append ms ns)
+first_of-append [] ns = refl
+first_of-append (m ∷ ms) ns = go (eqb m 0) refl (first_of-append ms ns)
   where
     go :
         (b : Bool) → eqb m 0 ≡ b → first_of (ms ++ ns) ≡ first (first_of ms) (first_of ns) →
@@ -45,30 +45,30 @@ firstOf-append (m ∷ ms) ns = go (eqb m 0) refl (firstOf-append ms ns)
 pub in_order :
     (text station count formula white l c tolerance reference test room : ℕ) →
     refusal
-    (record { place = atRoom; number = room } ∷ record { place = atTest; number = test }
-    ∷ record { place = atReference; number = reference }
-    ∷ record { place = atTolerance; number = tolerance } ∷ record { place = atC; number = c }
-    ∷ record { place = atL; number = l }
-    ∷ record { place = atWhite; number = white } ∷ record { place = atFormula; number = formula }
-    ∷ record { place = atCount; number = count } ∷ record { place = atStation; number = station }
-    ∷ record { place = atText; number = text } ∷ [])
+    (record { place = at_room; number = room } ∷ record { place = at_test; number = test }
+    ∷ record { place = at_reference; number = reference }
+    ∷ record { place = at_tolerance; number = tolerance } ∷ record { place = at_c; number = c }
+    ∷ record { place = at_l; number = l }
+    ∷ record { place = at_white; number = white } ∷ record { place = at_formula; number = formula }
+    ∷ record { place = at_count; number = count } ∷ record { place = at_station; number = station }
+    ∷ record { place = at_text; number = text } ∷ [])
     ≡ first_of (text ∷ station ∷ count ∷ formula ∷ white ∷ l ∷ c ∷ tolerance ∷ reference ∷ test ∷ room ∷ [])
 unfolding refusal number_at
 in_order text station count formula white l c tolerance reference test room = refl
 
 -- a lent slice's fault comes after all others of its list
 pub refusal-room :
-    (fs : List Fault) (n : ℕ) → number_at fs atRoom ≡ 0 → refusal (record { place = atRoom; number = n } ∷ fs)
+    (fs : List Fault) (n : ℕ) → number_at fs at_room ≡ 0 → refusal (record { place = at_room; number = n } ∷ fs)
     ≡ first (refusal fs) n
 unfolding refusal number_at first_of
 refusal-room fs n none =
     let others : List ℕ =
     map (number_at fs)
-    (atText ∷ atStation ∷ atCount ∷ atFormula ∷ atWhite ∷ atL ∷ atC ∷ atTolerance ∷ atReference ∷ atTest ∷ []) in
+    (at_text ∷ at_station ∷ at_count ∷ at_formula ∷ at_white ∷ at_l ∷ at_c ∷ at_tolerance ∷ at_reference ∷ at_test ∷ []) in
     let without : refusal fs ≡ first_of others =
-    firstOf-append others (number_at fs atRoom ∷ []) ∙ ap (first (first_of others)) (first-zero _ ∙ none)
-    ∙ first-zero (first_of others) in
-    firstOf-append others (n ∷ []) ∙ ap (first (first_of others)) (first-zero n)
+    first_of-append others (number_at fs at_room ∷ []) ∙ ap (first (first_of others)) (first_zero _ ∙ none)
+    ∙ first_zero (first_of others) in
+    first_of-append others (n ∷ []) ∙ ap (first (first_of others)) (first_zero n)
     ∙ ap (λ (m : ℕ). first m n) (sym without)
 
 -- ---- what every number is
@@ -79,27 +79,27 @@ pub data Each (Q : ℕ → Type 0) : List Fault → Type 0 where
   more : {f : Fault} {fs : List Fault} → Q f.number → Each Q fs → Each Q (f ∷ fs)
 
 module _ (Q : ℕ → Type 0) (zero : Q 0) where
-  number-keeps : {fs : List Fault} → Each Q fs → (p : Place) → Q (number_at fs p)
+  number_keeps : {fs : List Fault} → Each Q fs → (p : Place) → Q (number_at fs p)
   unfolding number_at
-  number-keeps none p = zero
-  number-keeps (more {f} {fs} q qs) p = go (place-discrete p f.place) (number-keeps qs p)
+  number_keeps none p = zero
+  number_keeps (more {f} {fs} q qs) p = go (place-discrete p f.place) (number_keeps qs p)
     where
       go : {A : Type 0} (d : Dec A) → Q (number_at fs p) → Q (either d f.number (number_at fs p))
       go (yes e) rest = q
       go (no e) rest = rest
 
-  first-keeps : {n m : ℕ} → Q n → Q m → Q (first n m)
-  first-keeps {n} {m} p q = go (eqb n 0)
+  first_keeps : {n m : ℕ} → Q n → Q m → Q (first n m)
+  first_keeps {n} {m} p q = go (eqb n 0)
     where
       go : (b : Bool) → Q (cond b m n)
       go true = q
       go false = p
 
-  places-keep : {fs : List Fault} → Each Q fs → (ps : List Place) → Q (first_of (map (number_at fs) ps))
+  places_keep : {fs : List Fault} → Each Q fs → (ps : List Place) → Q (first_of (map (number_at fs) ps))
   unfolding first_of
-  places-keep qs [] = zero
-  places-keep qs (p ∷ ps) = first-keeps (number-keeps qs p) (places-keep qs ps)
+  places_keep qs [] = zero
+  places_keep qs (p ∷ ps) = first_keeps (number_keeps qs p) (places_keep qs ps)
 
-  pub refusal-keeps : {fs : List Fault} → Each Q fs → Q (refusal fs)
+  pub refusal_keeps : {fs : List Fault} → Each Q fs → Q (refusal fs)
   unfolding refusal
-  refusal-keeps qs = places-keep qs order
+  refusal_keeps qs = places_keep qs order

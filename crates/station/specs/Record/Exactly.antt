@@ -2,7 +2,7 @@
 -- range, holds no standard, and every other slice holds one (1.4). `Exactly/Laws.antt` has the proof. Assumes nothing.
 use Rattle.std.specs.Prelude.{◌≡◌, true, List, ◌⊎◌, ℕ, ◌*◌, ◌^◌, ◌<◌, length, get_or}
 use Rattle.rounding.specs.Signed.{∣◌∣, minus}
-use Rattle.station.specs.Record.{two, four, ofTwos}
+use Rattle.station.specs.Record.{two, four, of_twos}
 pub mod Accepting
 pub mod Laws
 
@@ -29,10 +29,10 @@ ToleranceOut t = Outside 100 10000 t
 -- 9: the slice's length is not 20, or one of its numbers is outside its range; the colour's are in units of 2 ^ -20
 pub data NoStandard (xs : List ℕ) : Type 0 where
   of_length : ¬ (length xs ≡ 20) → NoStandard xs
-  of-formula : NoFormula (get_or xs 0 0) → NoStandard xs
-  of-white : NoWhite (get_or xs 1 0) → NoStandard xs
-  of-factors : FactorsOut (two xs 2) (two xs 4) → NoStandard xs
-  of-tolerance : ToleranceOut (two xs 6) → NoStandard xs
-  of-lightness : (minus (ofTwos (four xs 8)) ≡ true) ⊎ (120 * 2 ^ 20 < ∣ ofTwos (four xs 8) ∣) → NoStandard xs
-  of-a : 256 * 2 ^ 20 < ∣ ofTwos (four xs 12) ∣ → NoStandard xs
-  of-b : 256 * 2 ^ 20 < ∣ ofTwos (four xs 16) ∣ → NoStandard xs
+  of_formula : NoFormula (get_or xs 0 0) → NoStandard xs
+  of_white : NoWhite (get_or xs 1 0) → NoStandard xs
+  of_factors : FactorsOut (two xs 2) (two xs 4) → NoStandard xs
+  of_tolerance : ToleranceOut (two xs 6) → NoStandard xs
+  of_lightness : (minus (of_twos (four xs 8)) ≡ true) ⊎ (120 * 2 ^ 20 < ∣ of_twos (four xs 8) ∣) → NoStandard xs
+  of_a : 256 * 2 ^ 20 < ∣ of_twos (four xs 12) ∣ → NoStandard xs
+  of_b : 256 * 2 ^ 20 < ∣ of_twos (four xs 16) ∣ → NoStandard xs

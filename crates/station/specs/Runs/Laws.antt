@@ -8,13 +8,13 @@ use Rattle.standard.specs.declared.accept.Acceptance.{Acceptance}
 use Rattle.standard.specs.declared.accept.Acceptance.TheVariants.{Refused, Accepted}
 use Rattle.station.specs.declared.Station.{Station}
 use Rattle.station.specs.declared.Station.TheVariants.{Empty, Holds}
-use Rattle.station.specs.Record.{storeIn, decode, zeros}
+use Rattle.station.specs.Record.{store_in, decode, zeros}
 use Rattle.station.specs.Record.Laws.{stores}
 use Rattle.station.specs.Record.Back.{length-encode, length-zeros, zeros-empty, decode-encode}
-use Rattle.station.specs.Runs.{leftBy, lastFrom, lastAccepted, fresh}
+use Rattle.station.specs.Runs.{left_by, last_from, last_accepted, fresh}
 
 -- whatever 20 bytes it is stored in
-store_same : (s : Standard) (xs : List ℕ) → length xs ≡ 20 → storeIn s xs ≡ storeIn s zeros
+store_same : (s : Standard) (xs : List ℕ) → length xs ≡ 20 → store_in s xs ≡ store_in s zeros
 store_same s xs n = sym (stores s xs n) ∙ stores s zeros length-zeros
 
 fresh-length : (last : Station) → length (fresh last) ≡ 20
@@ -22,16 +22,16 @@ unfolding fresh
 fresh-length Empty = length-zeros
 fresh-length (Holds s) = ap length (sym (stores s zeros length-zeros)) ∙ length-encode s
 
-run-from : (last : Station) (run : List Acceptance) → leftBy (fresh last) run ≡ fresh (lastFrom last run)
-unfolding leftBy lastFrom fresh
-run-from last [] = refl
-run-from last (Refused n ∷ run) = run-from last run
-run-from last (Accepted s ∷ run) =
-    ap (λ (xs : List ℕ). leftBy xs run) (store_same s (fresh last) (fresh-length last)) ∙ run-from (Holds s) run
+run_from : (last : Station) (run : List Acceptance) → left_by (fresh last) run ≡ fresh (last_from last run)
+unfolding left_by last_from fresh
+run_from last [] = refl
+run_from last (Refused n ∷ run) = run_from last run
+run_from last (Accepted s ∷ run) =
+    ap (λ (xs : List ℕ). left_by xs run) (store_same s (fresh last) (fresh-length last)) ∙ run_from (Holds s) run
 
-pub run-left : (run : List Acceptance) → leftBy zeros run ≡ fresh (lastAccepted run)
+pub run_left : (run : List Acceptance) → left_by zeros run ≡ fresh (last_accepted run)
 unfolding fresh
-run-left run = run-from Empty run
+run_left run = run_from Empty run
 
 -- ---- and it reads back
 
@@ -39,15 +39,15 @@ pub data AllValid : List Acceptance → Type 0 where
   none : AllValid []
   more : {a : Acceptance} {run : List Acceptance} → ValidIn a → AllValid run → AllValid (a ∷ run)
 
-last-holds :
+last_holds :
     (last : Station) → decode (fresh last) ≡ last → (run : List Acceptance) → AllValid run →
-    decode (fresh (lastFrom last run)) ≡ lastFrom last run
-unfolding lastFrom fresh
-last-holds last h [] all = h
-last-holds last h (Refused n ∷ run) (more v all) = last-holds last h run all
-last-holds last h (Accepted s ∷ run) (more v all) =
-    last-holds (Holds s) (ap decode (sym (stores s zeros length-zeros)) ∙ decode-encode s (v s refl)) run all
+    decode (fresh (last_from last run)) ≡ last_from last run
+unfolding last_from fresh
+last_holds last h [] all = h
+last_holds last h (Refused n ∷ run) (more v all) = last_holds last h run all
+last_holds last h (Accepted s ∷ run) (more v all) =
+    last_holds (Holds s) (ap decode (sym (stores s zeros length-zeros)) ∙ decode-encode s (v s refl)) run all
 
-pub run_holds : (run : List Acceptance) → AllValid run → decode (leftBy zeros run) ≡ lastAccepted run
+pub run_holds : (run : List Acceptance) → AllValid run → decode (left_by zeros run) ≡ last_accepted run
 unfolding fresh
-run_holds run all = ap decode (run-left run) ∙ last-holds Empty zeros-empty run all
+run_holds run all = ap decode (run_left run) ∙ last_holds Empty zeros-empty run all

@@ -25,21 +25,21 @@ module _ (b : ℕ) (s : List ℕ) (i : ℕ) where
   unfolding index_of
   index-suc h e = rw (drop-cons s i 0 h, ne_eqb (get_or s i 0) b e, add-one i)
 
-  pub index-of-end : length s ≤ i → index_of b (drop i s) ≡ 0
+  pub index_of_end : length s ≤ i → index_of b (drop i s) ≡ 0
   unfolding index_of
-  index-of-end h = rw (drop_of_length-le s {i = i} h)
+  index_of_end h = rw (drop_of_length-le s {i = i} h)
 
 -- ---- a comparison that has come to index i
 
-and-false : (a : Bool) {b : Bool} → b ≡ false → a && b ≡ false
-and-false true e = e
-and-false false e = refl
+and_false : (a : Bool) {b : Bool} → b ≡ false → a && b ≡ false
+and_false true e = e
+and_false false e = refl
 
 pub starts-short : (key s : List ℕ) → length s < length key → starts_with key s ≡ false
 unfolding starts_with
 starts-short [] s h = absurd (not-suc-le-zero h)
 starts-short (k ∷ key) [] h = refl
-starts-short (k ∷ key) (x ∷ s) h = and-false (eqb k x) (starts-short key s (le_of_suc-le-suc h))
+starts-short (k ∷ key) (x ∷ s) h = and_false (eqb k x) (starts-short key s (le_of_suc-le-suc h))
 
 module _ (key s : List ℕ) (i : ℕ) where
   pub starts-next :
@@ -50,41 +50,41 @@ module _ (key s : List ℕ) (i : ℕ) where
       let hs : i < length s = omega arith in
       rw (drop-cons key i 0 h, drop-cons s i 0 hs, eq-eqb (get_or key i 0) (get_or s i 0) e, add-one i)
 
-  pub starts-false :
+  pub starts_false :
       i < length key → length key ≤ length s → (get_or key i 0 ≡ get_or s i 0 → ⊥) →
       starts_with (drop i key) (drop i s) ≡ false
   unfolding starts_with
-  starts-false h k e =
+  starts_false h k e =
       let hs : i < length s = omega arith in
       rw (drop-cons key i 0 h, drop-cons s i 0 hs, ne_eqb (get_or key i 0) (get_or s i 0) e)
 
-  pub starts-true : length key ≤ i → starts_with (drop i key) (drop i s) ≡ true
+  pub starts_true : length key ≤ i → starts_with (drop i key) (drop i s) ≡ true
   unfolding starts_with
-  starts-true h = rw (drop_of_length-le key {i = i} h)
+  starts_true h = rw (drop_of_length-le key {i = i} h)
 
 and_right : (a : Bool) {b : Bool} → a && b ≡ true → b ≡ true
 and_right true e = e
 and_right false e = absurd (false≢true e)
 
-pub length-le-of-starts : (key s : List ℕ) → starts_with key s ≡ true → length key ≤ length s
+pub length_le_of_starts : (key s : List ℕ) → starts_with key s ≡ true → length key ≤ length s
 unfolding starts_with
-length-le-of-starts [] s e = omega arith
-length-le-of-starts (k ∷ key) [] e = absurd (false≢true e)
-length-le-of-starts (k ∷ key) (x ∷ s) e = omega (arith, length-le-of-starts key s (and_right (eqb k x) e))
+length_le_of_starts [] s e = omega arith
+length_le_of_starts (k ∷ key) [] e = absurd (false≢true e)
+length_le_of_starts (k ∷ key) (x ∷ s) e = omega (arith, length_le_of_starts key s (and_right (eqb k x) e))
 
 -- ---- parts of a text, as code cuts them
 
-pub drop-is : (s : List ℕ) (i : ℕ) → take (length s - i) (drop i s) ≡ drop i s
-drop-is s i = take_all (length s - i) (drop i s) (omega (arith, length-drop i s))
+pub drop_is : (s : List ℕ) (i : ℕ) → take (length s - i) (drop i s) ≡ drop i s
+drop_is s i = take_all (length s - i) (drop i s) (omega (arith, length-drop i s))
 
 module _ (b : ℕ) (s : List ℕ) {i : ℕ} (f : Found b s i) where
-  pub take-before : take i s ≡ before b s
+  pub take_before : take i s ≡ before b s
   unfolding before
-  take-before = ap (λ (k : ℕ). take k s) f.first
+  take_before = ap (λ (k : ℕ). take k s) f.first
 
   pub drop-after : take (length s - (i + 1)) (drop (i + 1) s) ≡ after b s
   unfolding after
-  drop-after = drop-is s (i + 1) ∙ ap (λ (k : ℕ). drop (k + 1) s) f.first
+  drop-after = drop_is s (i + 1) ∙ ap (λ (k : ℕ). drop (k + 1) s) f.first
 
   pub nothing-after : length s ≤ i → ◌≡◌ {A = List ℕ} [] (after b s)
   unfolding after

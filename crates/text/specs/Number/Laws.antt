@@ -9,8 +9,8 @@ use Rattle.colour.specs.Conversion.Laws.{both_true}
 use Rattle.text.specs.Ascii.{ascii}
 use Rattle.reading.specs.declared.decimal.Decimal.{Decimal}
 use Rattle.text.specs.Bytes.{has, before, after, starts_with}
-use Rattle.text.specs.Bytes.Laws.{Found, drop-is}
-use Rattle.text.specs.Number.{numeral, digitsOf, fractionOf, both, decimalOf, decimalBelow, signed_of}
+use Rattle.text.specs.Bytes.Laws.{Found, drop_is}
+use Rattle.text.specs.Number.{numeral, digits_of, fraction_of, both, decimal_of, decimal_below, signed_of}
 use Rattle.text.specs.declared.number.NumberRead.{NumberRead}
 use Rattle.text.specs.declared.number.NumberRead.TheVariants as N
 use Rattle.text.specs.declared.number.SignedRead.{SignedRead}
@@ -22,9 +22,9 @@ abbrev pub number_in : NumberRead → Option ℕ
 number_in N.Nothing = none
 number_in (N.Is x) = some x
 
-abbrev pub signedIn : SignedRead → Option Decimal
-signedIn S.Nothing = none
-signedIn (S.Is x) = some x
+abbrev pub signed_in : SignedRead → Option Decimal
+signed_in S.Nothing = none
+signed_in (S.Is x) = some x
 
 -- ---- digits, for a loop that has come to index i with v
 
@@ -35,42 +35,42 @@ module _ (v : ℕ) (s : List ℕ) (i : ℕ) where
   unfolding numeral
   numeral-next h p q = rw (drop-cons s i 0 h, le-leb _ _ p, le-leb _ _ q, add-one i)
 
-  pub numeral-none-of-low : i < length s → get_or s i 0 < 48 → numeral v (drop i s) ≡ none
+  pub numeral_none_of_low : i < length s → get_or s i 0 < 48 → numeral v (drop i s) ≡ none
   unfolding numeral
-  numeral-none-of-low h p = rw (drop-cons s i 0 h, lt-leb _ _ p)
+  numeral_none_of_low h p = rw (drop-cons s i 0 h, lt-leb _ _ p)
 
-  pub numeral-none-of-high : i < length s → 48 ≤ get_or s i 0 → 57 < get_or s i 0 → numeral v (drop i s) ≡ none
+  pub numeral_none_of_high : i < length s → 48 ≤ get_or s i 0 → 57 < get_or s i 0 → numeral v (drop i s) ≡ none
   unfolding numeral
-  numeral-none-of-high h p q = rw (drop-cons s i 0 h, le-leb _ _ p, lt-leb _ _ q)
+  numeral_none_of_high h p q = rw (drop-cons s i 0 h, le-leb _ _ p, lt-leb _ _ q)
 
-  pub numeral-end : length s ≤ i → numeral v (drop i s) ≡ some v
+  pub numeral_end : length s ≤ i → numeral v (drop i s) ≡ some v
   unfolding numeral
-  numeral-end h = rw (drop_of_length-le s {i = i} h)
+  numeral_end h = rw (drop_of_length-le s {i = i} h)
 
-pub digit-more : (v d i : ℕ) → v < 10 ^ i → d ≤ 9 → v * 10 + d < 10 ^ (i + 1)
-digit-more v d i h k = rw (add-one i, pow-suc 10 i) (omega arith)
+pub digit_more : (v d i : ℕ) → v < 10 ^ i → d ≤ 9 → v * 10 + d < 10 ^ (i + 1)
+digit_more v d i h k = rw (add-one i, pow-suc 10 i) (omega arith)
 
 pub five-digits-lt : (v i : ℕ) → v < 10 ^ i → i ≤ 5 → v < 100000
 five-digits-lt v i h k = omega (arith, pow-le-pow_right {n = 10} (lit< tt) {i = i} {j = 5} k)
 
 module _ (most : ℕ) (s : List ℕ) where
-  pub digits-numeral : 1 ≤ length s → length s ≤ most → digitsOf most s ≡ numeral 0 s
-  unfolding digitsOf
+  pub digits-numeral : 1 ≤ length s → length s ≤ most → digits_of most s ≡ numeral 0 s
+  unfolding digits_of
   digits-numeral p q = rw (le-leb _ _ p, le-leb _ _ q)
 
-  pub digits-none-of-short : length s < 1 → digitsOf most s ≡ none
-  unfolding digitsOf
-  digits-none-of-short p = rw (lt-leb _ _ p)
+  pub digits_none_of_short : length s < 1 → digits_of most s ≡ none
+  unfolding digits_of
+  digits_none_of_short p = rw (lt-leb _ _ p)
 
-  pub digits-none-of-long : 1 ≤ length s → most < length s → digitsOf most s ≡ none
-  unfolding digitsOf
-  digits-none-of-long p q = rw (le-leb _ _ p, lt-leb _ _ q)
+  pub digits_none_of_long : 1 ≤ length s → most < length s → digits_of most s ≡ none
+  unfolding digits_of
+  digits_none_of_long p q = rw (le-leb _ _ p, lt-leb _ _ q)
 
 -- ---- bounds
 
-some-only : (b : Bool) (n : Option ℕ) {w : ℕ} → cond b n none ≡ some w → (b ≡ true) × (n ≡ some w)
-some-only true n e = (refl, e)
-some-only false n e = absurd (let z : ◌≡◌ {A = ℕ} 0 1 = cc in omega arith)
+some_only : (b : Bool) (n : Option ℕ) {w : ℕ} → cond b n none ≡ some w → (b ≡ true) × (n ≡ some w)
+some_only true n e = (refl, e)
+some_only false n e = absurd (let z : ◌≡◌ {A = ℕ} 0 1 = cc in omega arith)
 
 numeral-lt : (s : List ℕ) (v : ℕ) {w : ℕ} → numeral v s ≡ some w → w < (v + 1) * 10 ^ length s
 unfolding numeral
@@ -78,7 +78,7 @@ numeral-lt [] v {w} e =
     let h : v ≡ w = cc in
     omega arith
 numeral-lt (d ∷ s) v {w} e =
-    let g = some-only (leb 48 d && leb d 57) (numeral (v * 10 + (d - 48)) s) e in
+    let g = some_only (leb 48 d && leb d 57) (numeral (v * 10 + (d - 48)) s) e in
     let k : d ≤ 57 = leb-true _ _ (both_true (leb 48 d) (leb d 57) g.0).1 in
     let ih : w < (v * 10 + (d - 48) + 1) * 10 ^ length s = numeral-lt s (v * 10 + (d - 48)) g.1 in
     let m : (v * 10 + (d - 48) + 1) * 10 ^ length s ≤ ((v + 1) * 10) * 10 ^ length s =
@@ -92,27 +92,27 @@ pub record Digits (most : ℕ) (s : List ℕ) (w : ℕ) : Type 0 where
   pub small : w < 10 ^ length s
   pub few : length s ≤ most
 
-pub digits_lt : (most : ℕ) (s : List ℕ) {w : ℕ} → digitsOf most s ≡ some w → Digits most s w
-unfolding digitsOf
+pub digits_lt : (most : ℕ) (s : List ℕ) {w : ℕ} → digits_of most s ≡ some w → Digits most s w
+unfolding digits_of
 digits_lt most s {w} e =
-    let g = some-only (leb 1 (length s) && leb (length s) most) (numeral 0 s) e in
+    let g = some_only (leb 1 (length s) && leb (length s) most) (numeral 0 s) e in
     let u = both_true (leb 1 (length s)) (leb (length s) most) g.0 in
     record { small = omega (arith, numeral-lt s 0 g.1); few = leb-true _ _ u.1 }
 
 -- ---- a decimal's parts, by what the code has of them
 
 module _ (places : ℕ) (s : List ℕ) {i : ℕ} (f : Found 46 s i) where
-  pub fraction-zero : length s ≤ i → some 0 ≡ fractionOf places s
-  unfolding fractionOf
+  pub fraction-zero : length s ≤ i → some 0 ≡ fraction_of places s
+  unfolding fraction_of
   fraction-zero h = rw (← f.first, le-ltb _ _ h)
 
-  pub fraction-is :
-      i < length s → {t : List ℕ} → t ≡ after 46 s → {o p : Option ℕ} → o ≡ digitsOf places t → o ≡ p
-      → map (λ d. d * 10 ^ (places - length t)) p ≡ fractionOf places s
-  unfolding fractionOf
-  fraction-is h et eo ep = rw (← f.first, lt-ltb _ _ h, ← et, ← eo, ep)
+  pub fraction_is :
+      i < length s → {t : List ℕ} → t ≡ after 46 s → {o p : Option ℕ} → o ≡ digits_of places t → o ≡ p
+      → map (λ d. d * 10 ^ (places - length t)) p ≡ fraction_of places s
+  unfolding fraction_of
+  fraction_is h et eo ep = rw (← f.first, lt-ltb _ _ h, ← et, ← eo, ep)
 
-scaled-lt : (places : ℕ) (t : List ℕ) {d : ℕ} → digitsOf places t ≡ some d → d * 10 ^ (places - length t) < 10 ^ places
+scaled-lt : (places : ℕ) (t : List ℕ) {d : ℕ} → digits_of places t ≡ some d → d * 10 ^ (places - length t) < 10 ^ places
 scaled-lt places t {d} e =
     let b = digits_lt places t e in
     let m : d * 10 ^ (places - length t) < 10 ^ length t * 10 ^ (places - length t) =
@@ -128,27 +128,27 @@ cond-lt false {y = y} h z e =
     let g : 0 ≡ y = cc in
     omega arith
 
-fraction-lt : (places : ℕ) (s : List ℕ) {y : ℕ} → fractionOf places s ≡ some y → y < 10 ^ places
-unfolding fractionOf
+fraction-lt : (places : ℕ) (s : List ℕ) {y : ℕ} → fraction_of places s ≡ some y → y < 10 ^ places
+unfolding fraction_of
 fraction-lt places s {y} e =
     let t = after 46 s in
     cond-lt (has 46 s)
     (λ d g.
-    let m = (map-eq-some_iff (λ d. d * 10 ^ (places - length t)) (digitsOf places t)).0 g in
+    let m = (map-eq-some_iff (λ d. d * 10 ^ (places - length t)) (digits_of places t)).0 g in
     omega (arith, scaled-lt places t m.1, m.2))
     (ten-pos places) e
 
-pub decimal-is :
-    (whole places : ℕ) (s : List ℕ) {u : List ℕ} → u ≡ before 46 s → {o p : Option ℕ} → o ≡ digitsOf whole u → o ≡ p
-    → {g h : Option ℕ} → g ≡ fractionOf places s → g ≡ h →
-    both (λ v d. v * 10 ^ places + d) p h ≡ decimalOf whole places s
-unfolding decimalOf
-decimal-is whole places s eu eo ep eg eh = rw (← eu, ← eo, ep, ← eg, eh)
+pub decimal_is :
+    (whole places : ℕ) (s : List ℕ) {u : List ℕ} → u ≡ before 46 s → {o p : Option ℕ} → o ≡ digits_of whole u → o ≡ p
+    → {g h : Option ℕ} → g ≡ fraction_of places s → g ≡ h →
+    both (λ v d. v * 10 ^ places + d) p h ≡ decimal_of whole places s
+unfolding decimal_of
+decimal_is whole places s eu eo ep eg eh = rw (← eu, ← eo, ep, ← eg, eh)
 
 -- ---- three digits and six places are small
 
 pub moved-lt :
-    (places : ℕ) (t : List ℕ) {d q : ℕ} → places ≤ 6 → digitsOf places t ≡ some d → q ≡ 10 ^ (places - length t) →
+    (places : ℕ) (t : List ℕ) {d q : ℕ} → places ≤ 6 → digits_of places t ≡ some d → q ≡ 10 ^ (places - length t) →
     d * q < 1000000
 moved-lt places t {d} h e k =
     omega (
@@ -159,18 +159,18 @@ moved-lt places t {d} h e k =
           {j = 6} h,
     )
 
-pub fraction-lt-million : (places : ℕ) (s : List ℕ) {y : ℕ} → places ≤ 6 → fractionOf places s ≡ some y → y < 1000000
-fraction-lt-million places s h e =
+pub fraction_lt_million : (places : ℕ) (s : List ℕ) {y : ℕ} → places ≤ 6 → fraction_of places s ≡ some y → y < 1000000
+fraction_lt_million places s h e =
     omega (arith, fraction-lt places s e, pow-le-pow_right {n = 10} (lit< tt) {i = places} {j = 6} h)
 
 pub record Sizes (whole places : ℕ) : Type 0 where
   pub few-digits : whole ≤ 3
   pub few-places : places ≤ 6
 
-pub scaled-whole-le :
-    (whole places : ℕ) (u : List ℕ) {x q : ℕ} → Sizes whole places → digitsOf whole u ≡ some x → q ≡ 10 ^ places →
+pub scaled_whole_le :
+    (whole places : ℕ) (u : List ℕ) {x q : ℕ} → Sizes whole places → digits_of whole u ≡ some x → q ≡ 10 ^ places →
     x * q ≤ 999000000
-scaled-whole-le whole places u {x} h e k =
+scaled_whole_le whole places u {x} h e k =
     let b = digits_lt whole u e in
     let small : x < 1000 = omega (arith, pow-le-pow_right {n = 10} (lit< tt) {i = length u} {j = 3} (omega arith)) in
     let m : x * 10 ^ places ≤ x * 1000000 =
@@ -181,12 +181,12 @@ scaled-whole-le whole places u {x} h e k =
 
 module _ (s : List ℕ) {b : Bool} (e : b ≡ starts_with (ascii "-") s) where
   pub signed_below :
-      b ≡ true → {o p : Option ℕ} → o ≡ decimalOf 3 6 (take (length s - 1) (drop 1 s)) → o ≡ p →
-      map (decimalBelow true) p ≡ signed_of s
+      b ≡ true → {o p : Option ℕ} → o ≡ decimal_of 3 6 (take (length s - 1) (drop 1 s)) → o ≡ p →
+      map (decimal_below true) p ≡ signed_of s
   unfolding signed_of
-  signed_below h eo ep = rw (← e, h, ← (drop-is s 1), ← eo, ep)
+  signed_below h eo ep = rw (← e, h, ← (drop_is s 1), ← eo, ep)
 
   pub signed_above :
-      b ≡ false → {o p : Option ℕ} → o ≡ decimalOf 3 6 s → o ≡ p → map (decimalBelow false) p ≡ signed_of s
+      b ≡ false → {o p : Option ℕ} → o ≡ decimal_of 3 6 s → o ≡ p → map (decimal_below false) p ≡ signed_of s
   unfolding signed_of
   signed_above h eo ep = rw (← e, h, ← eo, ep)

@@ -9,18 +9,18 @@ use Rattle.text.specs.Put.{put_at, Room, Puts, joined, line}
 -- ---- one put
 
 -- what stood before, s, what stood after
-pub put-spelled : (xs : List ℕ) (at : ℕ) (s : List ℕ) → put_at xs at s ≡ take at xs ++ s ++ drop (at + length s) xs
+pub put_spelled : (xs : List ℕ) (at : ℕ) (s : List ℕ) → put_at xs at s ≡ take at xs ++ s ++ drop (at + length s) xs
 unfolding put_at
-put-spelled xs at s = refl
+put_spelled xs at s = refl
 
 pub put-length : (xs : List ℕ) (at : ℕ) (s : List ℕ) → at + length s ≤ length xs → length (put_at xs at s) ≡ length xs
 unfolding put_at
 put-length xs at s h = simp (length-append, length-take, length-drop) (omega arith)
 
 -- what a loop that copies byte by byte leaves
-pub paste-is-put : (xs : List ℕ) (at : ℕ) (s : List ℕ) → paste xs at s (length s) ≡ put_at xs at s
+pub paste_is_put : (xs : List ℕ) (at : ℕ) (s : List ℕ) → paste xs at s (length s) ≡ put_at xs at s
 unfolding put_at
-paste-is-put xs at s = rw take-length
+paste_is_put xs at s = rw take-length
 
 -- nothing put is nothing changed
 pub put-nil : (xs : List ℕ) (at : ℕ) → put_at xs at [] ≡ xs
@@ -45,11 +45,11 @@ put-put xs at s t h =
     (ap (λ (l : List ℕ). l ++ drop (at + (length s + length t)) xs) (append_assoc (take at xs) s t))
 
 -- one byte more in front
-pub put-before :
+pub put_before :
     (xs : List ℕ) (at : ℕ) (s : List ℕ) (b : ℕ) → at + 1 + length s ≤ length xs →
     set (put_at xs (at + 1) s) at b ≡ put_at xs at (b ∷ s)
 unfolding put_at
-put-before xs at s b h =
+put_before xs at s b h =
     let rest : List ℕ = drop (at + 1 + length s) xs in
     let same_rest : at + 1 + length s ≡ at + suc (length s) = omega arith in
     let split : take (at + 1) xs ≡ take at xs ++ (get_or xs at 0 ∷ []) =
@@ -73,26 +73,26 @@ part-put xs at s h =
 
 -- ---- what a writer goes by
 
-pub puts-nil : (xs : List ℕ) (at : ℕ) → Puts xs at [] at xs
-puts-nil xs at = record { end = sym (add-zero at); bytes = sym (put-nil xs at) }
+pub puts_nil : (xs : List ℕ) (at : ℕ) → Puts xs at [] at xs
+puts_nil xs at = record { end = sym (add-zero at); bytes = sym (put-nil xs at) }
 
-pub puts-length : {xs ys s : List ℕ} {at r : ℕ} → Room xs at s → Puts xs at s r ys → length ys ≡ length xs
-puts-length {xs} {s = s} {at = at} h p = ap length p.bytes ∙ put-length xs at s h.room
+pub puts_length : {xs ys s : List ℕ} {at r : ℕ} → Room xs at s → Puts xs at s r ys → length ys ≡ length xs
+puts_length {xs} {s = s} {at = at} h p = ap length p.bytes ∙ put-length xs at s h.room
 
 -- the same text under another name
 pub room_as : {xs s t : List ℕ} {at : ℕ} → s ≡ t → Room xs at s → Room xs at t
 room_as {xs} {s} {t} {at} e h = subst (λ (l : List ℕ). Room xs at l) e h
 
-pub puts-as : {xs ys s t : List ℕ} {at r : ℕ} → s ≡ t → Puts xs at s r ys → Puts xs at t r ys
-puts-as {xs} {ys} {s} {t} {at} {r} e p = subst (λ (l : List ℕ). Puts xs at l r ys) e p
+pub puts_as : {xs ys s t : List ℕ} {at r : ℕ} → s ≡ t → Puts xs at s r ys → Puts xs at t r ys
+puts_as {xs} {ys} {s} {t} {at} {r} e p = subst (λ (l : List ℕ). Puts xs at l r ys) e p
 
 -- An arm of a match on x, where x is y: what is put is y's text.
 module _ {A : Type 0} (text : A → List ℕ) {x y : A} (e : x ≡ y) {xs : List ℕ} {at : ℕ} where
-  pub room-in-arm : Room xs at (text x) → Room xs at (text y)
-  room-in-arm h = room_as (ap text e) h
+  pub room_in_arm : Room xs at (text x) → Room xs at (text y)
+  room_in_arm h = room_as (ap text e) h
 
-  pub puts-in-arm : {ys : List ℕ} {r : ℕ} → Puts xs at (text y) r ys → Puts xs at (text x) r ys
-  puts-in-arm p = puts-as (sym (ap text e)) p
+  pub puts_in_arm : {ys : List ℕ} {r : ℕ} → Puts xs at (text y) r ys → Puts xs at (text x) r ys
+  puts_in_arm p = puts_as (sym (ap text e)) p
 
 -- ---- lines
 
@@ -111,35 +111,35 @@ pub record PutsAll (xs : List ℕ) (at : ℕ) (ss : List (List ℕ)) (r : ℕ) (
   pub end : r ≡ at + length (joined ss)
   pub bytes : ys ≡ put_at xs at (joined ss)
 
-pub room-for-all : {xs : List ℕ} {at : ℕ} (ss : List (List ℕ)) → Room xs at (joined ss) → RoomForAll xs at ss
-room-for-all ss h = record { room = h.room }
+pub room_for_all : {xs : List ℕ} {at : ℕ} (ss : List (List ℕ)) → Room xs at (joined ss) → RoomForAll xs at ss
+room_for_all ss h = record { room = h.room }
 
-pub puts-joined : {xs ys : List ℕ} {at r : ℕ} {ss : List (List ℕ)} → PutsAll xs at ss r ys → Puts xs at (joined ss) r ys
-puts-joined p = record { end = p.end; bytes = p.bytes }
+pub puts_joined : {xs ys : List ℕ} {at r : ℕ} {ss : List (List ℕ)} → PutsAll xs at ss r ys → Puts xs at (joined ss) r ys
+puts_joined p = record { end = p.end; bytes = p.bytes }
 
 pub puts_none : (xs : List ℕ) (at : ℕ) → PutsAll xs at [] at xs
 puts_none xs at = record { end = sym (add-zero at); bytes = sym (put-nil xs at) }
 
 module _ {xs : List ℕ} {at : ℕ} {s : List ℕ} {ss : List (List ℕ)} (h : RoomForAll xs at (s ∷ ss)) where
-  room-both : at + (length s + length (joined ss)) ≤ length xs
-  room-both = rw length-append at h.room
+  room_both : at + (length s + length (joined ss)) ≤ length xs
+  room_both = rw length-append at h.room
 
   -- room for the first
-  pub room-first : Room xs at s
-  room-first = record { room = omega (arith, room-both) }
+  pub room_first : Room xs at s
+  room_first = record { room = omega (arith, room_both) }
 
   -- once the first is put, room for the others
   pub room-rest : {r : ℕ} {ys : List ℕ} → Puts xs at s r ys → RoomForAll ys r ss
-  room-rest p = record { room = omega (arith, room-both, p.end, puts-length room-first p) }
+  room-rest p = record { room = omega (arith, room_both, p.end, puts_length room_first p) }
 
   -- the first and then the others
-  pub puts-more : {r q : ℕ} {ys zs : List ℕ} → Puts xs at s r ys → PutsAll ys r ss q zs → PutsAll xs at (s ∷ ss) q zs
-  puts-more {r} p n = record {
+  pub puts_more : {r q : ℕ} {ys zs : List ℕ} → Puts xs at s r ys → PutsAll ys r ss q zs → PutsAll xs at (s ∷ ss) q zs
+  puts_more {r} p n = record {
     end = rw (length-append s (joined ss)) (omega (arith, p.end, n.end));
     bytes =
         n.bytes ∙ ap (λ (l : List ℕ). put_at l r (joined ss)) p.bytes
         ∙ ap (λ (k : ℕ). put_at (put_at xs at s) k (joined ss)) p.end
-        ∙ put-put xs at s (joined ss) room-first.room;
+        ∙ put-put xs at s (joined ss) room_first.room;
   }
 
 -- ---- the same from the second to the fifth of a row
@@ -147,7 +147,7 @@ module _ {xs : List ℕ} {at : ℕ} {s : List ℕ} {ss : List (List ℕ)} (h : R
 pub room-second :
     {xs ys s t : List ℕ} {ss : List (List ℕ)} {at a : ℕ} → RoomForAll xs at (s ∷ t ∷ ss) →
     Puts xs at s a ys → Room ys a t
-room-second h p = room-first (room-rest h p)
+room-second h p = room_first (room-rest h p)
 
 pub room-third :
     {xs ys zs s t u : List ℕ} {ss : List (List ℕ)} {at a b : ℕ} → RoomForAll xs at (s ∷ t ∷ u ∷ ss) →
@@ -159,17 +159,17 @@ pub room-fourth :
     Puts xs at s a ys → Puts ys a t b zs → Puts zs b u c vs → Room vs c v
 room-fourth h p q r = room-third (room-rest h p) q r
 
-pub puts-two :
+pub puts_two :
     {xs ys zs s t : List ℕ} {at a b : ℕ} → RoomForAll xs at (s ∷ t ∷ []) →
     Puts xs at s a ys → Puts ys a t b zs → PutsAll xs at (s ∷ t ∷ []) b zs
-puts-two h p q = puts-more h p (puts-more (room-rest h p) q (puts_none _ _))
+puts_two h p q = puts_more h p (puts_more (room-rest h p) q (puts_none _ _))
 
-pub puts-three :
+pub puts_three :
     {xs ys zs vs s t u : List ℕ} {at a b c : ℕ} → RoomForAll xs at (s ∷ t ∷ u ∷ []) →
     Puts xs at s a ys → Puts ys a t b zs → Puts zs b u c vs → PutsAll xs at (s ∷ t ∷ u ∷ []) c vs
-puts-three h p q r = puts-more h p (puts-two (room-rest h p) q r)
+puts_three h p q r = puts_more h p (puts_two (room-rest h p) q r)
 
-pub puts-four :
+pub puts_four :
     {xs ys zs vs ws s t u v : List ℕ} {at a b c d : ℕ} → RoomForAll xs at (s ∷ t ∷ u ∷ v ∷ []) →
     Puts xs at s a ys → Puts ys a t b zs → Puts zs b u c vs → Puts vs c v d ws → PutsAll xs at (s ∷ t ∷ u ∷ v ∷ []) d ws
-puts-four h p q r o = puts-more h p (puts-three (room-rest h p) q r o)
+puts_four h p q r o = puts_more h p (puts_three (room-rest h p) q r o)

@@ -1,16 +1,16 @@
 -- The ticket's grammar of docs/SCOPE.md 9.1 to 9.3, said of a text's lines: which line is due in which place, when one
 -- is right, which is the first wrong one, and which ticket a right text says. It does not follow the steps of a parser:
--- `wrong-exactly` of Grammar/Wrong.antt and `right-exactly` of Grammar/Right.antt show that `ticketOf`, which the code
+-- `wrong_exactly` of Grammar/Wrong.antt and `right_exactly` of Grammar/Right.antt show that `ticket_of`, which the code
 -- computes, is exactly this. Definitions only. Assumes nothing.
 use Rattle.std.specs.Prelude.{ℕ, ◌≤◌, ◌<◌, ◌≡◌, true, cond, ◌⊎◌, List, [], ◌∷◌, ◌++◌, map, length}
 use Rattle.std.proofs.Math.Option.{none, some}
 use Rattle.text.specs.Ascii.{ascii}
-use Rattle.text.specs.Lines.{Line, content, isEnded, lines_of, nth, startsLine}
-use Rattle.text.specs.Number.{thousandthsOf, signed_of}
+use Rattle.text.specs.Lines.{Line, content, is_ended, lines_of, nth, starts_line}
+use Rattle.text.specs.Number.{thousandths_of, signed_of}
 use Rattle.text.specs.Put.{joined, line}
 use Rattle.reading.specs.declared.decimal.Decimal.{Decimal}
 use Rattle.colour.specs.declared.placed.Written.{Written}
-use Rattle.ticket.specs.Ticket.{formulaNamed, whiteNamed, spaceNamed, space_of, inSpace, missingL, missingC}
+use Rattle.ticket.specs.Ticket.{formula_named, white_named, space_named, space_of, in_space, missing_l, missing_c}
 use Rattle.ticket.specs.declared.value.Space.{Space}
 use Rattle.ticket.specs.declared.lines.Ticket.{Ticket}
 pub mod Parted
@@ -41,16 +41,16 @@ key ref = ascii "ref="
 key test = ascii "test="
 
 -- keys once and in this order
-abbrev pub allPlaces : List Place
-allPlaces = formula ∷ white ∷ l ∷ c ∷ tol ∷ space ∷ ref ∷ test ∷ []
+abbrev pub all_places : List Place
+all_places = formula ∷ white ∷ l ∷ c ∷ tol ∷ space ∷ ref ∷ test ∷ []
 
 -- l and c may both be missing
-abbrev pub withoutLAndC : List Place
-withoutLAndC = formula ∷ white ∷ tol ∷ space ∷ ref ∷ test ∷ []
+abbrev pub without_l_and_c : List Place
+without_l_and_c = formula ∷ white ∷ tol ∷ space ∷ ref ∷ test ∷ []
 
 -- line 3 starting with tol= says so
 unfoldable pub form_of : List ℕ → List Place
-form_of s = cond (startsLine (key tol) (nth 3 (lines_of s))) withoutLAndC allPlaces
+form_of s = cond (starts_line (key tol) (nth 3 (lines_of s))) without_l_and_c all_places
 
 -- ---- what a value says
 
@@ -63,19 +63,19 @@ pub record Reads (p : Space) (value : List ℕ) (r : Written) : Type 0 where
   pub x : Decimal
   pub y : Decimal
   pub z : Decimal
-  pub x-said : signed_of first ≡ some x
-  pub y-said : signed_of second ≡ some y
-  pub z-said : signed_of third ≡ some z
-  pub reading : r ≡ inSpace p x y z
+  pub x_said : signed_of first ≡ some x
+  pub y_said : signed_of second ≡ some y
+  pub z_said : signed_of third ≡ some z
+  pub reading : r ≡ in_space p x y z
 
 -- in this place the value says what the ticket has there; the line space speaks of both readings
 abbrev pub Says : Ticket → Place → (value : List ℕ) → Type 0
-Says t formula value = formulaNamed value ≡ some t.settings.formula
-Says t white value = whiteNamed value ≡ some t.settings.white
-Says t l value = thousandthsOf value ≡ some t.settings.l
-Says t c value = thousandthsOf value ≡ some t.settings.c
-Says t tol value = thousandthsOf value ≡ some t.settings.tolerance
-Says t space value = spaceNamed value ≡ some (space_of t.reference)
+Says t formula value = formula_named value ≡ some t.settings.formula
+Says t white value = white_named value ≡ some t.settings.white
+Says t l value = thousandths_of value ≡ some t.settings.l
+Says t c value = thousandths_of value ≡ some t.settings.c
+Says t tol value = thousandths_of value ≡ some t.settings.tolerance
+Says t space value = space_named value ≡ some (space_of t.reference)
 Says t ref value = Reads (space_of t.reference) value t.reference
 Says t test value = Reads (space_of t.reference) value t.test
 
@@ -84,7 +84,7 @@ Says t test value = Reads (space_of t.reference) value t.test
 -- the line is ended by LF, and is the place's key and a value that says what some ticket has there, whatever its space
 pub record RightFor (p : Place) (x : Line) : Type 0 where
   pub value : List ℕ
-  pub ends : isEnded x ≡ true
+  pub ends : is_ended x ≡ true
   pub whole : content x ≡ key p ++ value
   pub ticket : Ticket
   pub said : Says ticket p value
@@ -93,7 +93,7 @@ pub record RightFor (p : Place) (x : Line) : Type 0 where
 pub data RightAt (n : ℕ) (s : List ℕ) : Type 0 where
   right-line :
       {p : Place} {x : Line} → nth n (form_of s) ≡ some p → nth n (lines_of s) ≡ some x → RightFor p x → RightAt n s
-  nothing-follows : nth n (form_of s) ≡ none → nth n (lines_of s) ≡ none → RightAt n s
+  nothing_follows : nth n (form_of s) ≡ none → nth n (lines_of s) ≡ none → RightAt n s
 
 -- lines 1 to n - 1 are
 abbrev pub RightBefore : ℕ → List ℕ → Type 0
@@ -102,7 +102,7 @@ RightBefore n s = (m : ℕ) → 0 < m → m < n → RightAt m s
 -- a text over 4,096 bytes is wrong at line 0, any other at its first line that is not right
 pub data WrongAt (n : ℕ) (s : List ℕ) : Type 0 where
   too_long : n ≡ 0 → 4096 < length s → WrongAt n s
-  first-wrong : 0 < n → length s ≤ 4096 → RightBefore n s → ¬ RightAt n s → WrongAt n s
+  first_wrong : 0 < n → length s ≤ 4096 → RightBefore n s → ¬ RightAt n s → WrongAt n s
 
 -- ---- right texts
 
@@ -116,6 +116,6 @@ pub record Consists (t : Ticket) (s : List ℕ) : Type 0 where
   pub value : Place → List ℕ
   pub said : (p : Place) → Says t p (value p)
   pub text :
-      (s ≡ text_of value allPlaces)
-      ⊎ ((s ≡ text_of value withoutLAndC) × (t.settings.l ≡ missingL) × (t.settings.c ≡ missingC))
-  pub at-most : length s ≤ 4096
+      (s ≡ text_of value all_places)
+      ⊎ ((s ≡ text_of value without_l_and_c) × (t.settings.l ≡ missing_l) × (t.settings.c ≡ missing_c))
+  pub at_most_lem : length s ≤ 4096

@@ -24,91 +24,91 @@ use Rattle.ticket.specs.declared.value.ReadingRead.TheVariants as R
 use Rattle.ticket.specs.declared.lines.Parsed.{Parsed}
 use Rattle.ticket.specs.declared.lines.Parsed.TheVariants.{Right, Wrong}
 use Rattle.ticket.specs.declared.lines.Ticket.{Ticket}
-use Rattle.text.specs.Bytes.{index_of, has, before, after, starts_with, sameBytes}
-use Rattle.text.specs.Bytes.Laws.{Found, drop-is}
-use Rattle.text.specs.Number.{digitsOf, decimalOf, thousandthsOf, signed_of}
-use Rattle.ticket.specs.Ticket.{named, formulaNamed, whiteNamed, spaceNamed, inSpace, three, reading_of, orWrong}
-use Rattle.ticket.specs.Ticket.{due, nothingMore, tolLine, cLine, filled, factorLines, whiteLine, ticketOf}
+use Rattle.text.specs.Bytes.{index_of, has, before, after, starts_with, same_bytes}
+use Rattle.text.specs.Bytes.Laws.{Found, drop_is}
+use Rattle.text.specs.Number.{digits_of, decimal_of, thousandths_of, signed_of}
+use Rattle.ticket.specs.Ticket.{named, formula_named, white_named, space_named, in_space, three, reading_of, or_wrong}
+use Rattle.ticket.specs.Ticket.{due, nothing_more, tol_line, c_line, filled, factor_lines, white_line, ticket_of}
 
 -- ---- what the code's answers say
 
-abbrev pub formulaIn : FormulaRead → Option Formula
-formulaIn F.Nothing = none
-formulaIn (F.Is x) = some x
+abbrev pub formula_in : FormulaRead → Option Formula
+formula_in F.Nothing = none
+formula_in (F.Is x) = some x
 
-abbrev pub whiteIn : WhiteRead → Option White
-whiteIn W.Nothing = none
-whiteIn (W.Is x) = some x
+abbrev pub white_in : WhiteRead → Option White
+white_in W.Nothing = none
+white_in (W.Is x) = some x
 
-abbrev pub spaceIn : SpaceRead → Option Space
-spaceIn S.Nothing = none
-spaceIn (S.Is x) = some x
+abbrev pub space_in : SpaceRead → Option Space
+space_in S.Nothing = none
+space_in (S.Is x) = some x
 
-abbrev pub readingIn : ReadingRead → Option Written
-readingIn R.Nothing = none
-readingIn (R.Is x) = some x
+abbrev pub reading_in : ReadingRead → Option Written
+reading_in R.Nothing = none
+reading_in (R.Is x) = some x
 
 -- the value of the first line, if it has the key and its LF
 unfoldable pub value_of : (key s : List ℕ) → List ℕ
 value_of key s = cond (has 10 s && starts_with key (before 10 s)) (drop (length key) (before 10 s)) []
 
 module _ (key s : List ℕ) {i : ℕ} (f : Found 10 s i) where
-  pub value-nil-of-no-line : length s ≤ i → ◌≡◌ {A = List ℕ} [] (value_of key s)
+  pub value_nil_of_no_line : length s ≤ i → ◌≡◌ {A = List ℕ} [] (value_of key s)
   unfolding value_of
-  value-nil-of-no-line h = rw (← f.first, le-ltb _ _ h)
+  value_nil_of_no_line h = rw (← f.first, le-ltb _ _ h)
 
   module _ (h : i < length s) {l : List ℕ} (el : l ≡ before 10 s) where
-    pub value-nil-of-key : starts_with key l ≡ false → ◌≡◌ {A = List ℕ} [] (value_of key s)
+    pub value_nil_of_key : starts_with key l ≡ false → ◌≡◌ {A = List ℕ} [] (value_of key s)
     unfolding value_of
-    value-nil-of-key e = rw (← f.first, lt-ltb _ _ h, ← el, e)
+    value_nil_of_key e = rw (← f.first, lt-ltb _ _ h, ← el, e)
 
-    pub drop-key-value : starts_with key l ≡ true → take (length l - length key) (drop (length key) l) ≡ value_of key s
+    pub drop_key_value : starts_with key l ≡ true → take (length l - length key) (drop (length key) l) ≡ value_of key s
     unfolding value_of
-    drop-key-value e = drop-is l (length key) ∙ rw (← f.first, lt-ltb _ _ h, ← el, e)
+    drop_key_value e = drop_is l (length key) ∙ rw (← f.first, lt-ltb _ _ h, ← el, e)
 
 -- ---- a line that is due, by what the code has of it: its value v, and the rest t of the text
 
 due-cond :
     (b : Bool) {A : Type 0} (n : ℕ) (value : List ℕ → Option A) (next : A → Parsed) (l : List ℕ) → value [] ≡ none
-    → cond b (orWrong n (value l) next) (Wrong n) ≡ orWrong n (value (cond b l [])) next
+    → cond b (or_wrong n (value l) next) (Wrong n) ≡ or_wrong n (value (cond b l [])) next
 due-cond true n value next l e = refl
 due-cond false n value next l e = rw e
 
 module _
     {A : Type 0} (n : ℕ) (key : List ℕ) (value : List ℕ → Option A) (next : A → List ℕ → Parsed) (s : List ℕ)
     (e : value [] ≡ none) {v : List ℕ} (ev : v ≡ value_of key s) where
-  due-value : due n key value next s ≡ orWrong n (value v) (λ x. next x (after 10 s))
+  due_value : due n key value next s ≡ or_wrong n (value v) (λ x. next x (after 10 s))
   unfolding due value_of
-  due-value =
+  due_value =
       let first = before 10 s in
       due-cond (has 10 s && starts_with key first) n value (λ x. next x (after 10 s)) (drop (length key) first) e ∙ rw ev
 
   -- wrong, or what the next line makes of x and t
   pub due-read :
       {o p : Option A} → o ≡ value v → o ≡ p → {t : List ℕ} → t ≡ after 10 s → {q : Parsed}
-      → q ≡ orWrong n p (λ x. next x t) → q ≡ due n key value next s
-  due-read eo ep et eq = eq ∙ sym (due-value ∙ rw (← eo, ep, ← et))
+      → q ≡ or_wrong n p (λ x. next x t) → q ≡ due n key value next s
+  due-read eo ep et eq = eq ∙ sym (due_value ∙ rw (← eo, ep, ← et))
 
 -- an empty value says nothing
-pub formula-of-nil : formulaNamed [] ≡ none
-unfolding named sameBytes
-formula-of-nil = refl
+pub formula_of_nil : formula_named [] ≡ none
+unfolding named same_bytes
+formula_of_nil = refl
 
-pub white-of-nil : whiteNamed [] ≡ none
-unfolding named sameBytes
-white-of-nil = refl
+pub white_of_nil : white_named [] ≡ none
+unfolding named same_bytes
+white_of_nil = refl
 
-pub space-of-nil : spaceNamed [] ≡ none
-unfolding named sameBytes
-space-of-nil = refl
+pub space_of_nil : space_named [] ≡ none
+unfolding named same_bytes
+space_of_nil = refl
 
-pub thousandths-of-nil : thousandthsOf [] ≡ none
-unfolding decimalOf digitsOf before index_of
-thousandths-of-nil = refl
+pub thousandths_of_nil : thousandths_of [] ≡ none
+unfolding decimal_of digits_of before index_of
+thousandths_of_nil = refl
 
-pub reading-of-nil : (space : Space) → reading_of space [] ≡ none
-unfolding reading_of signed_of starts_with before index_of decimalOf digitsOf
-reading-of-nil space = refl
+pub reading_of_nil : (space : Space) → reading_of space [] ≡ none
+unfolding reading_of signed_of starts_with before index_of decimal_of digits_of
+reading_of_nil space = refl
 
 -- ---- a name, by what the code has of it: whether s is that of x
 
@@ -117,10 +117,10 @@ unfolding named
 named_none name s = refl
 
 module _
-    {A : Type 0} (name : A → List ℕ) (x : A) (xs : List A) (s : List ℕ) {b : Bool} (e : b ≡ sameBytes s (name x)) where
-  pub named-first : b ≡ true → some x ≡ named name (x ∷ xs) s
+    {A : Type 0} (name : A → List ℕ) (x : A) (xs : List A) (s : List ℕ) {b : Bool} (e : b ≡ same_bytes s (name x)) where
+  pub named_first : b ≡ true → some x ≡ named name (x ∷ xs) s
   unfolding named
-  named-first h = sym (rw (← e, h))
+  named_first h = sym (rw (← e, h))
 
   pub named_other : b ≡ false → named name xs s ≡ named name (x ∷ xs) s
   unfolding named
@@ -128,49 +128,49 @@ module _
 
 -- ---- a reading, by what the code has of it
 
-pub in-space-xyz : {p : Space} (x y z : Decimal) → p ≡ Xyz → Written-as-Xyz x y z ≡ inSpace p x y z
-unfolding inSpace
-in-space-xyz x y z e = rw e
+pub in_space_xyz : {p : Space} (x y z : Decimal) → p ≡ Xyz → Written-as-Xyz x y z ≡ in_space p x y z
+unfolding in_space
+in_space_xyz x y z e = rw e
 
-pub in-space-lab : {p : Space} (x y z : Decimal) → p ≡ Lab → Written-as-Lab x y z ≡ inSpace p x y z
-unfolding inSpace
-in-space-lab x y z e = rw e
+pub in_space_lab : {p : Space} (x y z : Decimal) → p ≡ Lab → Written-as-Lab x y z ≡ in_space p x y z
+unfolding in_space
+in_space_lab x y z e = rw e
 
-pub reading-is :
+pub reading_is :
     (space : Space) (s : List ℕ) {t u v w : List ℕ} {p q r : Option Decimal}
     → t ≡ after 32 s → u ≡ before 32 s → p ≡ signed_of u → v ≡ before 32 t → q ≡ signed_of v → w ≡ after 32 t
-    → r ≡ signed_of w → three (inSpace space) p q r ≡ reading_of space s
+    → r ≡ signed_of w → three (in_space space) p q r ≡ reading_of space s
 unfolding reading_of
-reading-is space s et eu ep ev eq ew er = sym (rw (← et, ← eu, ← ep, ← ev, ← eq, ← ew, ← er))
+reading_is space s et eu ep ev eq ew er = sym (rw (← et, ← eu, ← ep, ← ev, ← eq, ← ew, ← er))
 
 -- ---- the text's ends
 
-pub more-right : (n : ℕ) (t : Ticket) (s : List ℕ) → length s ≡ 0 → Right t ≡ nothingMore n t s
-unfolding nothingMore
-more-right n t [] e = refl
-more-right n t (x ∷ s) e = absurd (omega arith)
+pub more_right : (n : ℕ) (t : Ticket) (s : List ℕ) → length s ≡ 0 → Right t ≡ nothing_more n t s
+unfolding nothing_more
+more_right n t [] e = refl
+more_right n t (x ∷ s) e = absurd (omega arith)
 
-pub more-wrong : (n : ℕ) (t : Ticket) (s : List ℕ) → (length s ≡ 0 → ⊥) → Wrong n ≡ nothingMore n t s
-unfolding nothingMore
-more-wrong n t [] e = absurd (e refl)
-more-wrong n t (x ∷ s) e = refl
+pub more_wrong : (n : ℕ) (t : Ticket) (s : List ℕ) → (length s ≡ 0 → ⊥) → Wrong n ≡ nothing_more n t s
+unfolding nothing_more
+more_wrong n t [] e = absurd (e refl)
+more_wrong n t (x ∷ s) e = refl
 
 module _ (n : ℕ) (p : Settings) (s : List ℕ) {b : Bool} (e : b ≡ starts_with (ascii "tol=") s) where
-  pub factors-missing : b ≡ true → tolLine n p s ≡ factorLines n p s
-  unfolding factorLines
-  factors-missing h = sym (rw (← e, h))
+  pub factors_missing : b ≡ true → tol_line n p s ≡ factor_lines n p s
+  unfolding factor_lines
+  factors_missing h = sym (rw (← e, h))
 
-  pub factors-given :
+  pub factors_given :
       b ≡ false
-      → due n (ascii "l=") thousandthsOf (λ x. cLine (n + 1) (filled p x p.c p.tolerance)) s ≡ factorLines n p s
-  unfolding factorLines
-  factors-given h = sym (rw (← e, h))
+      → due n (ascii "l=") thousandths_of (λ x. c_line (n + 1) (filled p x p.c p.tolerance)) s ≡ factor_lines n p s
+  unfolding factor_lines
+  factors_given h = sym (rw (← e, h))
 
 module _ (s : List ℕ) where
-  pub ticket-of-long : 4096 < length s → Wrong 0 ≡ ticketOf s
-  unfolding ticketOf
-  ticket-of-long h = rw (lt-ltb _ _ h)
+  pub ticket_of_long : 4096 < length s → Wrong 0 ≡ ticket_of s
+  unfolding ticket_of
+  ticket_of_long h = rw (lt-ltb _ _ h)
 
-  pub ticket-of-short : length s ≤ 4096 → due 1 (ascii "formula=") formulaNamed (whiteLine 2) s ≡ ticketOf s
-  unfolding ticketOf
-  ticket-of-short h = sym (rw (le-ltb _ _ h))
+  pub ticket_of_short : length s ≤ 4096 → due 1 (ascii "formula=") formula_named (white_line 2) s ≡ ticket_of s
+  unfolding ticket_of
+  ticket_of_short h = sym (rw (le-ltb _ _ h))

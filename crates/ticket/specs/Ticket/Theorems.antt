@@ -2,12 +2,12 @@
 use Rattle.std.specs.Prelude.{ℕ, ◌≤◌, ◌<◌, ◌≡◌, refl, List, length}
 use Rattle.std.proofs.Common.{sym, arith}
 use Rattle.std.proofs.Math.Logic.{inl, inr}
-use Rattle.ticket.specs.Ticket.{missingL, missingC, ticketOf}
-use Rattle.ticket.specs.Ticket.Grammar.{Place, allPlaces, withoutLAndC, text_of}
+use Rattle.ticket.specs.Ticket.{missing_l, missing_c, ticket_of}
+use Rattle.ticket.specs.Ticket.Grammar.{Place, all_places, without_l_and_c, text_of}
 use Rattle.ticket.specs.Ticket.Grammar.Lengths.{at_most, text-few}
-use Rattle.ticket.specs.Ticket.Grammar.Right.{right-exactly}
-use Rattle.ticket.specs.Ticket.Laws.{ticket-of-long}
-use Rattle.ticket.specs.Ticket.Print.{printed, printTicket, printShort, Writable}
+use Rattle.ticket.specs.Ticket.Grammar.Right.{right_exactly}
+use Rattle.ticket.specs.Ticket.Laws.{ticket_of_long}
+use Rattle.ticket.specs.Ticket.Print.{printed, print_ticket, print_short, Writable}
 use Rattle.ticket.specs.Ticket.Print.Laws.{printed-said}
 use Rattle.ticket.specs.declared.lines.Ticket.{Ticket}
 use Rattle.ticket.specs.declared.lines.Parsed.TheVariants.{Right, Wrong}
@@ -16,28 +16,28 @@ module _ (t : Ticket) (w : Writable t) where
   few : (ps : List Place) → length (text_of (printed t) ps) ≤ at_most ps
   few = text-few t (printed t) (printed-said t w)
 
-  pub print-parses : ticketOf (printTicket t) ≡ Right t
-  unfolding printTicket
-  print-parses =
-      (right-exactly (printTicket t) t).1
+  pub print_parses : ticket_of (print_ticket t) ≡ Right t
+  unfolding print_ticket
+  print_parses =
+      (right_exactly (print_ticket t) t).1
       (record {
         value = printed t;
         said = printed-said t w;
         text = inl refl;
-        at-most = omega (arith, few allPlaces);
+        at_most_lem = omega (arith, few all_places);
       })
 
   -- l and c may be left out where they are what a ticket without them has
-  pub short-parses : t.settings.l ≡ missingL → t.settings.c ≡ missingC → ticketOf (printShort t) ≡ Right t
-  unfolding printShort
-  short-parses el ec =
-      (right-exactly (printShort t) t).1
+  pub short_parses : t.settings.l ≡ missing_l → t.settings.c ≡ missing_c → ticket_of (print_short t) ≡ Right t
+  unfolding print_short
+  short_parses el ec =
+      (right_exactly (print_short t) t).1
       (record {
         value = printed t;
         said = printed-said t w;
         text = inr (refl, el, ec);
-        at-most = omega (arith, few withoutLAndC);
+        at_most_lem = omega (arith, few without_l_and_c);
       })
 
-pub long-is-line-0 : (s : List ℕ) → 4096 < length s → ticketOf s ≡ Wrong 0
-long-is-line-0 s h = sym (ticket-of-long s h)
+pub long_is_line_0 : (s : List ℕ) → 4096 < length s → ticket_of s ≡ Wrong 0
+long_is_line_0 s h = sym (ticket_of_long s h)

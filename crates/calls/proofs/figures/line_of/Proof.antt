@@ -11,5 +11,5 @@ right c = sym (ap line_of c.enum_told.given.1)
 wrong : tie.Need-returns-2
 wrong c = sym (ap line_of c.before.p.given.1)
 
-pub line-of-spec : {M : Type 1} → statement M
-line-of-spec = tie.close (tie.spec (λ c. search rules) (λ c. search rules) right wrong)
+pub line_of_spec : {M : Type 1} → statement M
+line_of_spec = tie.close (tie.spec (λ c. search rules) (λ c. search rules) right wrong)

@@ -2,7 +2,7 @@
 -- accepted. Assumes nothing.
 use mathlib.Core.Path.{sym, ap, ◌∙◌}
 use borrow.Author.Rules.{rules}
-use Rattle.standard.specs.Figures.{referenceAnswer}
+use Rattle.standard.specs.Figures.{reference_answer}
 use Rattle.calls.specs.Outcome.Load.{loaded-valid}
 use Rattle.calls.proofs.figures.load_figures.Statement.{statement}
 use Rattle.calls.proofs.figures.load_figures.Tie as tie
@@ -11,7 +11,7 @@ valid : tie.Need-reference-answer-requires
 valid c κs s e = loaded-valid _ _ s (sym c.load-outcome.ensures ∙ e)
 
 returns : tie.Need-returns
-returns c = c.reference-answer.ensures ∙ ap referenceAnswer c.before.load-outcome.ensures
+returns c = c.reference-answer.ensures ∙ ap reference_answer c.before.load-outcome.ensures
 
-pub load-figures-spec : {M : Type 1} → statement M
-load-figures-spec = tie.close (tie.spec (λ c κs. search rules) valid returns)
+pub load_figures_spec : {M : Type 1} → statement M
+load_figures_spec = tie.close (tie.spec (λ c κs. search rules) valid returns)

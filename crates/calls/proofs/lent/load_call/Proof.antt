@@ -6,35 +6,35 @@ use Rattle.calls.proofs.lent.load_call.Tie as tie
 
 refused : tie.Need-returns
 refused c =
-    let at-number = c.before in
-    let at_load = at-number.before.before in
-    load-call-refused _ _ _ _ _ _ _ at_load.load-outcome.ensures at-number.n.given.1
+    let at_number = c.before in
+    let at_load = at_number.before.before in
+    load-call-refused _ _ _ _ _ _ _ at_load.load-outcome.ensures at_number.n.given.1
 
 -- ---- where the slice was tried
 module _ (c : tie.After-slice-known2) where
   abbrev at_store : tie.After-store
   at_store = c.before.before
 
-  abbrev at-standard : tie.After-s
-  at-standard = let known : tie.After-known-told2 = at_store.before.before in known.before
+  abbrev at_standard : tie.After-s
+  at_standard = let known : tie.After-known-told2 = at_store.before.before in known.before
 
   abbrev at_load : tie.After-load-outcome
-  at_load = at-standard.before.before
+  at_load = at_standard.before.before
 
 stored : tie.Need-returns-2
 stored c =
     let d = c.before in
-    load-call-stored _ _ _ _ _ _ _ (at_load d).load-outcome.ensures (at-standard d).s.given.1
+    load-call-stored _ _ _ _ _ _ _ (at_load d).load-outcome.ensures (at_standard d).s.given.1
     (at_store d).store.ensures.0 (at_store d).store.ensures.1 c.if1.true
 
 other : tie.Need-returns-3
 other c =
     let d = c.before in
-    load-call-other _ _ _ _ _ _ _ (at_load d).load-outcome.ensures (at-standard d).s.given.1
+    load-call-other _ _ _ _ _ _ _ (at_load d).load-outcome.ensures (at_standard d).s.given.1
     (at_store d).store.ensures.0 (at_store d).store.ensures.1 c.if1.false
 
-pub load-call-spec : {M : Type 1} → statement M
-load-call-spec =
+pub load_call_spec : {M : Type 1} → statement M
+load_call_spec =
     tie.close
     (tie.spec
     (λ c κs. search rules)

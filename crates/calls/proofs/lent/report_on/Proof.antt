@@ -14,10 +14,10 @@ judged c =
     let known = at-writing.before.before in
     let at-judgement = known.before in
     reported-judged _ _ at-judgement.o2.given.1 at-writing.write-report.ensures.number_is
-    at-writing.write-report.ensures.room-is
+    at-writing.write-report.ensures.room_is
 
-pub report-on-spec : {M : Type 1} → statement M
-report-on-spec =
+pub report_on_spec : {M : Type 1} → statement M
+report_on_spec =
     tie.close
     (tie.spec
     (λ c. search rules)

@@ -1,6 +1,6 @@
 -- `lent::ticket_call` meets its contract: it is what the parsed text comes to, reported. Assumes nothing.
 use borrow.Author.Rules.{rules}
-use Rattle.calls.specs.Calls.Laws.{ticket-call-gives}
+use Rattle.calls.specs.Calls.Laws.{ticket_call_gives}
 use Rattle.calls.proofs.lent.ticket_call.Statement.{statement}
 use Rattle.calls.proofs.lent.ticket_call.Tie as tie
 
@@ -8,11 +8,11 @@ returns : tie.Need-returns
 returns c =
     let at-report = c.before.before in
     let at-outcome = at-report.before.before in
-    ticket-call-gives _ _ _ at-outcome.before.parse.ensures at-outcome.ticket-outcome.ensures
+    ticket_call_gives _ _ _ at-outcome.before.parse.ensures at-outcome.ticket-outcome.ensures
     at-report.report-on.ensures
 
-pub ticket-call-spec : {M : Type 1} → statement M
-ticket-call-spec =
+pub ticket_call_spec : {M : Type 1} → statement M
+ticket_call_spec =
     tie.close
     (tie.spec
     (λ c κs. search rules)

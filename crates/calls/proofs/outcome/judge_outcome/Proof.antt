@@ -23,12 +23,12 @@ empty c = let shr_slice_at = c.before.before in judge-empty _ _ shr_slice_at.rea
 
 judged : tie.Need-returns-2
 judged c =
-    let at-reading = c.before in
-    judge-held _ _ (at_read at-reading).read.ensures (held at-reading).s.given.1
-    at-reading.place-reading.ensures c.judge.ensures
+    let at_reading = c.before in
+    judge-held _ _ (at_read at_reading).read.ensures (held at_reading).s.given.1
+    at_reading.place-reading.ensures c.judge.ensures
 
-pub judge-outcome-spec : {M : Type 1} → statement M
-judge-outcome-spec =
+pub judge_outcome_spec : {M : Type 1} → statement M
+judge_outcome_spec =
     tie.close
     (tie.spec
     (λ c κs. search rules)

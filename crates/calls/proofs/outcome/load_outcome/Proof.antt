@@ -6,20 +6,20 @@ use Rattle.calls.proofs.outcome.load_outcome.Tie as tie
 
 unnamed : tie.Need-returns
 unnamed c =
-    let at-number = c.before in
-    let at-settings = at-number.before.before in
-    load-unnamed _ _ at-settings.settings-of.ensures at-number.n.given.1
+    let at_number = c.before in
+    let at-settings = at_number.before.before in
+    load-unnamed _ _ at-settings.settings-of.ensures at_number.n.given.1
 
 tried : tie.Need-returns-2
 tried c =
-    let at-reading = c.before in
-    let named = at-reading.before.before in
+    let at_reading = c.before in
+    let named = at_reading.before.before in
     let at-settings = named.before.before in
-    load-tried _ _ at-settings.settings-of.ensures named.s.given.1 at-reading.place-reading.ensures
+    load-tried _ _ at-settings.settings-of.ensures named.s.given.1 at_reading.place-reading.ensures
     c.accept.ensures
 
-pub load-outcome-spec : {M : Type 1} → statement M
-load-outcome-spec =
+pub load_outcome_spec : {M : Type 1} → statement M
+load_outcome_spec =
     tie.close
     (tie.spec
     (λ c κs. search rules)

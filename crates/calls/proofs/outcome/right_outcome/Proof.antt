@@ -1,37 +1,37 @@
 -- `outcome::right_outcome` meets its contract: one law of `Outcome/Ticket.antt` for each way out; what was accepted is
 -- valid. Assumes nothing.
 use borrow.Author.Rules.{rules}
-use Rattle.calls.specs.Outcome.Ticket.{ticket-unaccepted, ticket-judged, ticket-judgeable}
+use Rattle.calls.specs.Outcome.Ticket.{ticket_unaccepted, ticket-judged, ticket-judgeable}
 use Rattle.calls.proofs.outcome.right_outcome.Statement.{statement}
 use Rattle.calls.proofs.outcome.right_outcome.Tie as tie
 
 refused : tie.Need-returns
 refused c =
-    let at-number = c.before in
-    let at_load = at-number.before.before in
-    ticket-unaccepted _ at_load.before.place-written.ensures at_load.accept.ensures at-number.n.given.1
+    let at_number = c.before in
+    let at_load = at_number.before.before in
+    ticket_unaccepted _ at_load.before.place-written.ensures at_load.accept.ensures at_number.n.given.1
 
 -- ---- where the test specimen is placed
 module _ (c : tie.After-place-written2) where
-  abbrev at-standard : tie.After-s
-  at-standard = c.before.before
+  abbrev at_standard : tie.After-s
+  at_standard = c.before.before
 
   abbrev at_load : tie.After-accept
-  at_load = at-standard.before.before
+  at_load = at_standard.before.before
 
 judgeable : tie.Need-judge-requires
 judgeable c κs =
     ticket-judgeable _ (at_load c).before.place-written.ensures (at_load c).accept.ensures
-    (at-standard c).s.given.1 c.place-written2.ensures
+    (at_standard c).s.given.1 c.place-written2.ensures
 
 judged : tie.Need-returns-2
 judged c =
     let at_test = c.before in
     ticket-judged _ (at_load at_test).before.place-written.ensures (at_load at_test).accept.ensures
-    (at-standard at_test).s.given.1 at_test.place-written2.ensures c.judge.ensures
+    (at_standard at_test).s.given.1 at_test.place-written2.ensures c.judge.ensures
 
-pub right-outcome-spec : {M : Type 1} → statement M
-right-outcome-spec =
+pub right_outcome_spec : {M : Type 1} → statement M
+right_outcome_spec =
     tie.close
     (tie.spec
     (λ c κs. search rules)

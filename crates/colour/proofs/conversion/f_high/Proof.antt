@@ -2,14 +2,14 @@
 -- division. Assumes nothing.
 use mathlib.Core.Path.{ap, ◌∙◌}
 use borrow.Author.Rules.{rules}
-use Rattle.rounding.specs.Root.{rootOf}
-use Rattle.colour.specs.Conversion.{fHigh}
+use Rattle.rounding.specs.Root.{root_of}
+use Rattle.colour.specs.Conversion.{f_high}
 use Rattle.colour.proofs.conversion.f_high.Statement.{statement}
 use Rattle.colour.proofs.conversion.f_high.Tie as tie
 
 returns : tie.Need-returns
-unfolding fHigh
-returns c = c.cube-root.ensures ∙ ap (rootOf 3) c.before.fraction.ensures
+unfolding f_high
+returns c = c.cube-root.ensures ∙ ap (root_of 3) c.before.fraction.ensures
 
-pub f-high-spec : {M : Type 1} → statement M
-f-high-spec = tie.close (tie.spec (λ c κs. search rules) (λ c κs. search rules) returns)
+pub f_high_spec : {M : Type 1} → statement M
+f_high_spec = tie.close (tie.spec (λ c κs. search rules) (λ c κs. search rules) returns)

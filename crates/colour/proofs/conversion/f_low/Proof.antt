@@ -1,15 +1,15 @@
 -- `conversion::f_low` meets its contract: one fraction at 20 places, whose parts fit 64 bits. Assumes nothing.
 use borrow.Author.Rules.{rules}
-use Rattle.colour.specs.Conversion.{fLow}
+use Rattle.colour.specs.Conversion.{f_low}
 use Rattle.colour.proofs.conversion.f_low.Statement.{statement}
 use Rattle.colour.proofs.conversion.f_low.Tie as tie
 
 returns : tie.Need-returns
-unfolding fLow
+unfolding f_low
 returns c = c.fraction.ensures
 
-pub f-low-spec : {M : Type 1} → statement M
-f-low-spec =
+pub f_low_spec : {M : Type 1} → statement M
+f_low_spec =
     tie.close
     (tie.spec
     (λ c. search rules)

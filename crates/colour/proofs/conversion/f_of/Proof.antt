@@ -13,5 +13,5 @@ low : tie.Need-returns-2
 unfolding f
 low c = rw (sym c.before.before.is-above-cut.ensures ∙ c.before.if1.false) c.f-low.ensures
 
-pub f-of-spec : {M : Type 1} → statement M
-f-of-spec = tie.close (tie.spec (λ c κs. search rules) (λ c κs. search rules) high (λ c κs. search rules) low)
+pub f_of_spec : {M : Type 1} → statement M
+f_of_spec = tie.close (tie.spec (λ c κs. search rules) (λ c κs. search rules) high (λ c κs. search rules) low)

@@ -10,13 +10,13 @@ use mir.Val.{to_z, of_z}
 use mir.Facts.{to_z_pos}
 use Rattle.colour.specs.declared.conversion.GridColour.{GridColour}
 use Rattle.colour.specs.declared.white.TristimulusValues.{TristimulusValues}
-use Rattle.colour.specs.Conversion.{bs6923, f, lightness, convert, gridColour}
+use Rattle.colour.specs.Conversion.{bs6923, f, lightness, convert, grid_colour}
 use Rattle.colour.specs.Conversion.Laws.{f_lt, lightness-le}
 use Rattle.colour.proofs.conversion.grid_colour.Statement.{statement}
 use Rattle.colour.proofs.conversion.grid_colour.Tie as tie
 
 -- the colour from its parts
-convert-is :
+convert_is :
     (white c : TristimulusValues) {L a b : ℤ} {l fx fy fz : ℕ} →
     l ≡ lightness 20 bs6923 c.Y white.Y →
     fx ≡ f 20 bs6923 c.X white.X →
@@ -26,27 +26,27 @@ convert-is :
     a ≡ pos 500 *ℤ (pos fx -ℤ pos fy) →
     b ≡ pos 200 *ℤ (pos fy -ℤ pos fz) →
     ◌≡◌ {A = GridColour} (record { L = record { 0 = L }; a = record { 0 = a }; b = record { 0 = b } })
-    (gridColour (convert 20 bs6923 white c))
+    (grid_colour (convert 20 bs6923 white c))
 unfolding convert
-convert-is white c hl hx hy hz hL ha hb = cc
+convert_is white c hl hx hy hz h_l ha hb = cc
 
 -- ---- the places that the answers speak of, seen from where L* is known
 module _ (c : tie.After-lightness-of) where
-  abbrev at-z : tie.After-f-of3
-  at-z = c.before
+  abbrev at_z : tie.After-f-of3
+  at_z = c.before
 
   abbrev at_y : tie.After-f-of2
-  at_y = at-z.before
+  at_y = at_z.before
 
   abbrev at_x : tie.After-f-of
   at_x = at_y.before
 
-  every : (at_x.f-of.result < 1229364) × ((at_y.f-of2.result < 1229364) × (at-z.f-of3.result < 1229364))
+  every : (at_x.f-of.result < 1229364) × ((at_y.f-of2.result < 1229364) × (at_z.f-of3.result < 1229364))
   every = (
     rw at_x.f-of.ensures (f_lt _ _ at_x.before.pre.X),
     (
       rw at_y.f-of2.ensures (f_lt _ _ at_x.before.pre.Y),
-      rw at-z.f-of3.ensures
+      rw at_z.f-of3.ensures
           (f_lt _ _ at_x.before.pre.Z),
     ),
   )
@@ -58,8 +58,8 @@ lightness-requires : tie.Need-lightness-of-requires
 lightness-requires c κs =
     let at_y = c.before in record { reach = at_y.before.before.requires.Y; is_f = at_y.f-of2.ensures }
 
-cast-t7 : tie.Need-overflow-cast-t7
-cast-t7 c = record { sfits = omega (arith, l_le c) }
+cast_t7 : tie.Need-overflow-cast-t7
+cast_t7 c = record { sfits = omega (arith, l_le c) }
 
 a-requires : tie.Need-opponent-of-requires
 a-requires c κs = record { times = omega arith; first = omega (arith, every c); second = omega (arith, every c) }
@@ -71,22 +71,22 @@ b-requires c κs =
 returns : tie.Need-returns
 returns c =
     let at_a = c.before in
-    let at-l = at_a.before in
+    let at_l_lem = at_a.before in
     let a_back : to_z w64 (of_z w64 at_a.opponent-of.result) ≡ at_a.opponent-of.result = search rules in
-    let b-back : to_z w64 (of_z w64 c.opponent-of2.result) ≡ c.opponent-of2.result = search rules in
-    convert-is _ _ at-l.lightness-of.ensures (at_x at-l).f-of.ensures (at_y at-l).f-of2.ensures
-    (at-z at-l).f-of3.ensures
-    (to_z_pos w64 (omega (arith, l_le at-l))) (a_back ∙ at_a.opponent-of.ensures) (b-back ∙ c.opponent-of2.ensures)
+    let b_back : to_z w64 (of_z w64 c.opponent-of2.result) ≡ c.opponent-of2.result = search rules in
+    convert_is _ _ at_l_lem.lightness-of.ensures (at_x at_l_lem).f-of.ensures (at_y at_l_lem).f-of2.ensures
+    (at_z at_l_lem).f-of3.ensures
+    (to_z_pos w64 (omega (arith, l_le at_l_lem))) (a_back ∙ at_a.opponent-of.ensures) (b_back ∙ c.opponent-of2.ensures)
 
-pub grid-colour-spec : {M : Type 1} → statement M
-grid-colour-spec =
+pub grid_colour_spec : {M : Type 1} → statement M
+grid_colour_spec =
     tie.close
     (tie.spec
     (λ c κs. search rules)
     (λ c κs. search rules)
     (λ c κs. search rules)
     lightness-requires
-    cast-t7
+    cast_t7
     a-requires
     b-requires
     returns)

@@ -2,13 +2,13 @@
 -- Assumes nothing.
 use mathlib.Core.Path.{refl}
 use borrow.Author.Rules.{rules}
-use Rattle.colour.specs.Conversion.{aboveCut}
+use Rattle.colour.specs.Conversion.{above_cut}
 use Rattle.colour.proofs.conversion.is_above_cut.Statement.{statement}
 use Rattle.colour.proofs.conversion.is_above_cut.Tie as tie
 
 returns : tie.Need-returns
-unfolding aboveCut
+unfolding above_cut
 returns c = refl
 
-pub is-above-cut-spec : {M : Type 1} → statement M
-is-above-cut-spec = tie.close (tie.spec (λ c. search rules) (λ c. search rules) returns)
+pub is_above_cut_spec : {M : Type 1} → statement M
+is_above_cut_spec = tie.close (tie.spec (λ c. search rules) (λ c. search rules) returns)

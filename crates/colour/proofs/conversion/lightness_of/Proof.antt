@@ -5,8 +5,8 @@ use mathlib.Core.Path.{◌≡◌, sym, ap, ◌∙◌}
 use Prim.Native.Nat.{ℕ, ◌-◌, ◌*◌, ◌≤◌, ◌<◌}
 use native.Mathlib.Omega.{arith}
 use borrow.Author.Rules.{rules}
-use Rattle.colour.specs.Conversion.{bs6923, aboveCut}
-use Rattle.colour.specs.Conversion.Laws.{f_lt, le-f, lightness-above, lightness-below}
+use Rattle.colour.specs.Conversion.{bs6923, above_cut}
+use Rattle.colour.specs.Conversion.Laws.{f_lt, le_f, lightness-above, lightness_below}
 use Rattle.colour.proofs.conversion.lightness_of.Statement.{statement}
 use Rattle.colour.proofs.conversion.lightness_of.Tie as tie
 
@@ -15,14 +15,14 @@ module _ (c : tie.Then1) where
   abbrev start : tie.Start
   start = c.before.before
 
-  above : aboveCut bs6923 start.args.y start.args.w ≡ true
+  above : above_cut bs6923 start.args.y start.args.w ≡ true
   above = sym c.before.is-above-cut.ensures ∙ c.if1.true
 
   fy-lt : start.args.fy < 1229364
   fy-lt = rw start.pre.is_f (f_lt _ _ start.pre.reach)
 
   le-fy : 144632 ≤ start.args.fy
-  le-fy = rw start.pre.is_f (le-f _ _ start.pre.reach above)
+  le-fy = rw start.pre.is_f (le_f _ _ start.pre.reach above)
 
 high : tie.Need-returns
 high c =
@@ -31,11 +31,11 @@ high c =
 low : tie.Need-returns-2
 low c =
     let at_cut = c.before.before in
-    c.fraction.ensures ∙ sym (lightness-below _ _ at_cut.before.requires.reach
+    c.fraction.ensures ∙ sym (lightness_below _ _ at_cut.before.requires.reach
     (sym at_cut.is-above-cut.ensures ∙ c.before.if1.false))
 
-pub lightness-of-spec : {M : Type 1} → statement M
-lightness-of-spec =
+pub lightness_of_spec : {M : Type 1} → statement M
+lightness_of_spec =
     tie.close
     (tie.spec
     (λ c κs. search rules)

@@ -2,26 +2,26 @@
 use mathlib.Core.Path.{sym, ◌∙◌}
 use borrow.Author.Rules.{rules}
 use borrow.Author.Tests.{not-true, not-false}
-use Rattle.colour.specs.Placed.Ways.{accepted-beyond-a, accepted-beyond-b, accepted-at}
+use Rattle.colour.specs.Placed.Ways.{accepted_beyond_a, accepted_beyond_b, accepted_at}
 use Rattle.colour.proofs.placed.accepted_colour.Statement.{statement}
 use Rattle.colour.proofs.placed.accepted_colour.Tie as tie
 
-beyond-a : tie.Need-returns
-beyond-a c = sym (accepted-beyond-a _ (sym c.before.is-opponent.ensures ∙ not-true _ c.if1.true))
+beyond_a : tie.Need-returns
+beyond_a c = sym (accepted_beyond_a _ (sym c.before.is_opponent_lem.ensures ∙ not-true _ c.if1.true))
 
-beyond-b : tie.Need-returns-2
-beyond-b c =
+beyond_b : tie.Need-returns-2
+beyond_b c =
     let at_b = c.before in
     let in-a = at_b.before in
-    sym (accepted-beyond-b _ (sym in-a.before.is-opponent.ensures ∙ not-false _ in-a.if1.false)
+    sym (accepted_beyond_b _ (sym in-a.before.is_opponent_lem.ensures ∙ not-false _ in-a.if1.false)
     (sym at_b.is-opponent2.ensures ∙ not-true _ c.if2.true))
 
 placed : tie.Need-returns-3
 placed c =
     let at_b = c.before in
     let in-a = at_b.before in
-    sym (accepted-at _ (sym in-a.before.is-opponent.ensures ∙ not-false _ in-a.if1.false)
+    sym (accepted_at _ (sym in-a.before.is_opponent_lem.ensures ∙ not-false _ in-a.if1.false)
     (sym at_b.is-opponent2.ensures ∙ not-false _ c.if2.false))
 
-pub accepted-colour-spec : {M : Type 1} → statement M
-accepted-colour-spec = tie.close (tie.spec (λ c κs. search rules) beyond-a (λ c κs. search rules) beyond-b placed)
+pub accepted_colour_spec : {M : Type 1} → statement M
+accepted_colour_spec = tie.close (tie.spec (λ c κs. search rules) beyond_a (λ c κs. search rules) beyond_b placed)

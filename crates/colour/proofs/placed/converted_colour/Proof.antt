@@ -8,8 +8,8 @@ use Rattle.rounding.specs.Signed.{∣◌∣}
 use Rattle.colour.specs.declared.conversion.GridColour.{GridColour}
 use Rattle.colour.specs.declared.white.White.{White}
 use Rattle.colour.specs.declared.white.TristimulusValues.{TristimulusValues}
-use Rattle.colour.specs.White.{whiteOf}
-use Rattle.colour.specs.Conversion.{bs6923, convert, gridColour}
+use Rattle.colour.specs.White.{white_of}
+use Rattle.colour.specs.Conversion.{bs6923, convert, grid_colour}
 use Rattle.colour.specs.Conversion.Ranges.{Measured}
 use Rattle.colour.specs.Placed.{converted}
 use Rattle.colour.specs.Placed.Ranges.{Millionths}
@@ -19,47 +19,47 @@ use Rattle.colour.proofs.placed.converted_colour.Tie as tie
 
 -- the conversion of three magnitudes X, Y, Z against the values v of a white w
 module _ (x y z : ℤ) (w : White) {X Y Z : ℕ} {v : TristimulusValues} (ex : X ≡ ∣ x ∣) (ey : Y ≡ ∣ y ∣) (ez : Z ≡ ∣ z ∣)
-    (ev : v ≡ whiteOf w) where
+    (ev : v ≡ white_of w) where
   in_reach : Millionths x y z → Measured (record { X = X; Y = Y; Z = Z }) v
   in_reach h = rw (ex, ey, ez, ev) (measured w h.X h.Y h.Z)
 
-  converted-is :
-      {c : GridColour} → c ≡ gridColour (convert 20 bs6923 v (record { X = X; Y = Y; Z = Z })) → c ≡ converted w x y z
-  converted-is ec = cc
+  converted_is :
+      {c : GridColour} → c ≡ grid_colour (convert 20 bs6923 v (record { X = X; Y = Y; Z = Z })) → c ≡ converted w x y z
+  converted_is ec = cc
 
 module _ (c : tie.After-tristimulus) where
-  abbrev at-z : tie.After-magnitude3
-  at-z = c.before
+  abbrev at_z : tie.After-magnitude3
+  at_z = c.before
 
   abbrev at_y : tie.After-magnitude2
-  at_y = at-z.before
+  at_y = at_z.before
 
   abbrev at_x : tie.After-magnitude
   at_x = at_y.before
 
-  x-is : at_x.magnitude.result ≡ ∣ at_x.before.args.x ∣
-  x-is = rw (to_z-of_z at_x.before.fits.x) at at_x.magnitude.ensures
+  x_is : at_x.magnitude.result ≡ ∣ at_x.before.args.x ∣
+  x_is = rw (to_z-of_z at_x.before.fits.x) at at_x.magnitude.ensures
 
-  y-is : at_y.magnitude2.result ≡ ∣ at_x.before.args.y ∣
-  y-is = rw (to_z-of_z at_x.before.fits.y) at at_y.magnitude2.ensures
+  y_is : at_y.magnitude2.result ≡ ∣ at_x.before.args.y ∣
+  y_is = rw (to_z-of_z at_x.before.fits.y) at at_y.magnitude2.ensures
 
-  z-is : at-z.magnitude3.result ≡ ∣ at_x.before.args.z ∣
-  z-is = rw (to_z-of_z at_x.before.fits.z) at at-z.magnitude3.ensures
+  z_is : at_z.magnitude3.result ≡ ∣ at_x.before.args.z ∣
+  z_is = rw (to_z-of_z at_x.before.fits.z) at at_z.magnitude3.ensures
 
 grid-colour-requires : tie.Need-grid-colour-requires
 grid-colour-requires c κs =
     let a = (at_x c).before.args in
-    in_reach a.x a.y a.z a.white (x-is c) (y-is c) (z-is c) c.tristimulus.ensures (at_x c).before.requires
+    in_reach a.x a.y a.z a.white (x_is c) (y_is c) (z_is c) c.tristimulus.ensures (at_x c).before.requires
 
 returns : tie.Need-returns
 returns c =
     let w = c.before in
     let a = (at_x w).before.args in
-    converted-is a.x a.y a.z a.white (x-is w) (y-is w) (z-is w) w.tristimulus.ensures
+    converted_is a.x a.y a.z a.white (x_is w) (y_is w) (z_is w) w.tristimulus.ensures
     c.grid-colour.ensures
 
-pub converted-colour-spec : {M : Type 1} → statement M
-converted-colour-spec =
+pub converted_colour_spec : {M : Type 1} → statement M
+converted_colour_spec =
     tie.close
     (tie.spec
     (λ c κs. search rules)

@@ -2,49 +2,49 @@
 use mathlib.Core.Bool.{false}
 use mathlib.Core.Path.{◌≡◌, sym, ◌∙◌}
 use borrow.Author.Rules.{rules}
-use Rattle.colour.specs.Placed.{isNotFinite}
-use Rattle.colour.specs.Placed.Ways.{fault-first, fault-second, fault-third, fault-none}
+use Rattle.colour.specs.Placed.{is_not_finite}
+use Rattle.colour.specs.Placed.Ways.{fault_first, fault-second, fault-third, fault_none}
 use Rattle.colour.proofs.placed.fault_of.Statement.{statement}
 use Rattle.colour.proofs.placed.fault_of.Tie as tie
 
 -- ---- what is known where each test passed
 
-u-finite : (c : tie.Else1) → isNotFinite c.before.before.args.u ≡ false
-u-finite c = sym c.before.is-not-finite.ensures ∙ c.if1.false
+u_finite : (c : tie.Else1) → is_not_finite c.before.before.args.u ≡ false
+u_finite c = sym c.before.is-not-finite.ensures ∙ c.if1.false
 
-abbrev past-u : tie.Else2 → tie.Else1
-past-u c = c.before.before
+abbrev past_u : tie.Else2 → tie.Else1
+past_u c = c.before.before
 
-v-finite : (c : tie.Else2) → isNotFinite (past-u c).before.before.args.v ≡ false
-v-finite c = sym c.before.is-not-finite2.ensures ∙ c.if2.false
+v_finite : (c : tie.Else2) → is_not_finite (past_u c).before.before.args.v ≡ false
+v_finite c = sym c.before.is-not-finite2.ensures ∙ c.if2.false
 
 -- ---- the four ways out
 
 first : tie.Need-returns
 first c =
     let a = c.before.before.args in
-    sym (fault-first a.u a.v a.w (sym c.before.is-not-finite.ensures ∙ c.if1.true))
+    sym (fault_first a.u a.v a.w (sym c.before.is-not-finite.ensures ∙ c.if1.true))
 
 second : tie.Need-returns-2
 second c =
     let past = c.before.before in
     let a = past.before.before.args in
-    sym (fault-second a.u a.v a.w (u-finite past) (sym c.before.is-not-finite2.ensures ∙ c.if2.true))
+    sym (fault-second a.u a.v a.w (u_finite past) (sym c.before.is-not-finite2.ensures ∙ c.if2.true))
 
 third : tie.Need-returns-3
 third c =
     let past = c.before.before in
-    let a = (past-u past).before.before.args in
-    sym (fault-third a.u a.v a.w (u-finite (past-u past)) (v-finite past)
+    let a = (past_u past).before.before.args in
+    sym (fault-third a.u a.v a.w (u_finite (past_u past)) (v_finite past)
     (sym c.before.is-not-finite3.ensures ∙ c.if3.true))
 
 none : tie.Need-returns-4
 none c =
     let past = c.before.before in
-    let a = (past-u past).before.before.args in
-    sym (fault-none a.u a.v a.w (u-finite (past-u past)) (v-finite past)
+    let a = (past_u past).before.before.args in
+    sym (fault_none a.u a.v a.w (u_finite (past_u past)) (v_finite past)
     (sym c.before.is-not-finite3.ensures ∙ c.if3.false))
 
-pub fault-of-spec : {M : Type 1} → statement M
-fault-of-spec =
+pub fault_of_spec : {M : Type 1} → statement M
+fault_of_spec =
     tie.close (tie.spec (λ c κs. search rules) first (λ c κs. search rules) second (λ c κs. search rules) third none)

@@ -4,52 +4,52 @@ use borrow.Author.Rules.{rules}
 use lib.IntN.{ℤ}
 use mir.Syntax.{w64}
 use mir.Val.{to_z, of_z}
-use Rattle.colour.specs.Placed.{placeLab}
-use Rattle.colour.specs.Placed.Ways.{take-first-refused, take-second-refused, take-third-refused, take-handed}
-use Rattle.colour.proofs.NoUnits.{no-units}
+use Rattle.colour.specs.Placed.{place_lab}
+use Rattle.colour.specs.Placed.Ways.{take_first_refused, take-second-refused, take-third-refused, take-handed}
+use Rattle.colour.proofs.NoUnits.{no_units}
 use Rattle.colour.proofs.placed.place_lab.Statement.{statement}
 use Rattle.colour.proofs.placed.place_lab.Tie as tie
 
-first-refused : tie.Need-returns
-first-refused c = take-first-refused placeLab _ _ _ (no-units _ c.before.match.keys2) c.fault-of.ensures
+first_refused : tie.Need-returns
+first_refused c = take_first_refused place_lab _ _ _ (no_units _ c.before.match.keys2) c.fault-of.ensures
 
 second-refused : tie.Need-returns-2
 second-refused c =
-    let at-v = c.before in
-    let at-u = at-v.before.before in
-    take-second-refused placeLab _ _ _ at-u.u.given.1 (no-units _ at-v.match2.keys2) c.fault-of2.ensures
+    let at_v = c.before in
+    let at_u = at_v.before.before in
+    take-second-refused place_lab _ _ _ at_u.u.given.1 (no_units _ at_v.match2.keys2) c.fault-of2.ensures
 
 third-refused : tie.Need-returns-3
 third-refused c =
-    let at-w = c.before in
-    let at-v = at-w.before.before in
-    let at-u = at-v.before.before.before in
-    take-third-refused placeLab _ _ _ at-u.u.given.1 at-v.v.given.1 (no-units _ at-w.match3.keys2)
+    let at_w = c.before in
+    let at_v = at_w.before.before in
+    let at_u = at_v.before.before.before in
+    take-third-refused place_lab _ _ _ at_u.u.given.1 at_v.v.given.1 (no_units _ at_w.match3.keys2)
     c.fault-of3.ensures
 
-placed-is : {l a b L A B : ℤ} → L ≡ l → A ≡ a → B ≡ b → placeLab L A B ≡ placeLab l a b
-placed-is el ea eb = cc
+placed_is : {l a b L A B : ℤ} → L ≡ l → A ≡ a → B ≡ b → place_lab L A B ≡ place_lab l a b
+placed_is el ea eb = cc
 
 placed : tie.Need-returns-4
 placed c =
-    let at-w = c.before in
-    let at-v = at-w.before.before.before in
-    let at-u = at-v.before.before.before in
-    let l = at-u.u.given in
-    let a = at-v.v.given in
-    let b = at-w.w.given in
+    let at_w = c.before in
+    let at_v = at_w.before.before.before in
+    let at_u = at_v.before.before.before in
+    let l = at_u.u.given in
+    let a = at_v.v.given in
+    let b = at_w.w.given in
     let l-back : to_z w64 (of_z w64 l.0.0) ≡ l.0.0 = search rules in
     let a_back : to_z w64 (of_z w64 a.0.0) ≡ a.0.0 = search rules in
-    let b-back : to_z w64 (of_z w64 b.0.0) ≡ b.0.0 = search rules in
-    take-handed placeLab _ _ _ l.1 a.1 b.1 (placed-is l-back a_back b-back)
+    let b_back : to_z w64 (of_z w64 b.0.0) ≡ b.0.0 = search rules in
+    take-handed place_lab _ _ _ l.1 a.1 b.1 (placed_is l-back a_back b_back)
 
-pub place-lab-spec : {M : Type 1} → statement M
-place-lab-spec =
+pub place_lab_spec : {M : Type 1} → statement M
+place_lab_spec =
     tie.close
     (tie.spec
     (λ c. search rules)
     (λ c κs. search rules)
-    first-refused
+    first_refused
     (λ c. search rules)
     (λ c κs. search rules)
     second-refused

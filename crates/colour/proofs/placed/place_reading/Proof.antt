@@ -2,11 +2,11 @@
 -- Assumes nothing.
 use mathlib.Core.Path.{sym, ap, ◌∙◌}
 use borrow.Author.Rules.{rules}
-use Rattle.reading.specs.Reading.{floatUnits}
+use Rattle.reading.specs.Reading.{float_units}
 use Rattle.reading.specs.Reading.Laws.{float-units-within}
 use Rattle.colour.specs.Placed.{place}
 use Rattle.colour.specs.Placed.Laws.{xyz-within}
-use Rattle.colour.specs.Placed.Ways.{take-xyz-is, take-lab-is}
+use Rattle.colour.specs.Placed.Ways.{take_xyz_is, take_lab_is}
 use Rattle.colour.proofs.placed.place_reading.Statement.{statement}
 use Rattle.colour.proofs.placed.place_reading.Tie as tie
 
@@ -14,18 +14,18 @@ place-xyz-requires : tie.Need-place-xyz-requires
 place-xyz-requires c κs =
     let at_y = c.before in
     let at_x = at_y.before in
-    xyz-within floatUnits float-units-within _ _ _ at_x.float-units.ensures at_y.float-units2.ensures
+    xyz-within float_units float-units-within _ _ _ at_x.float-units.ensures at_y.float-units2.ensures
     c.float-units3.ensures
 
 xyz : tie.Need-returns
 unfolding place
 xyz c =
-    let at-z = c.before in
-    let at_y = at-z.before in
+    let at_z = c.before in
+    let at_y = at_z.before in
     let at_x = at_y.before in
     let arm = at_x.before.before in
-    take-xyz-is floatUnits _ _ _ _ at_x.float-units.ensures at_y.float-units2.ensures
-    at-z.float-units3.ensures c.place-xyz.ensures
+    take_xyz_is float_units _ _ _ _ at_x.float-units.ensures at_y.float-units2.ensures
+    at_z.float-units3.ensures c.place-xyz.ensures
     ∙ sym (ap (place _) arm.r.given.1)
 
 lab : tie.Need-returns-2
@@ -33,14 +33,14 @@ unfolding place
 lab c =
     let at_b = c.before in
     let at_a = at_b.before in
-    let at-l = at_a.before in
-    let arm = at-l.before.before in
-    take-lab-is floatUnits _ _ _ at-l.float-units4.ensures at_a.float-units5.ensures
+    let at_l_lem = at_a.before in
+    let arm = at_l_lem.before.before in
+    take_lab_is float_units _ _ _ at_l_lem.float-units4.ensures at_a.float-units5.ensures
     at_b.float-units6.ensures c.place-lab.ensures
     ∙ sym (ap (place _) arm.r2.given.1)
 
-pub place-reading-spec : {M : Type 1} → statement M
-place-reading-spec =
+pub place_reading_spec : {M : Type 1} → statement M
+place_reading_spec =
     tie.close
     (tie.spec
     (λ c. search rules)

@@ -35,8 +35,8 @@ returns c =
     let back : to_z w64 (of_z w64 c.quotient.result) ≡ c.quotient.result = search rules in
     back ∙ (rw (to_z-of_z c.before.ranges.z) at c.quotient.ensures)
 
-pub component-of-spec : {M : Type 1} → statement M
-component-of-spec =
+pub component_of_spec : {M : Type 1} → statement M
+component_of_spec =
     tie.close
     (tie.spec
     (λ c. search rules)

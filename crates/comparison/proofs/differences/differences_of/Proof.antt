@@ -5,7 +5,7 @@ use native.Mathlib.Omega.{arith}
 use borrow.Author.Rules.{rules}
 use mir.Syntax.{w64}
 use mir.Val.{to_z, of_z}
-use Rattle.sheet.specs.Sheet.{component, componentH, differences}
+use Rattle.sheet.specs.Sheet.{component, component_h, differences}
 use Rattle.sheet.specs.Sheet.Bounds.{components-fit}
 use Rattle.comparison.proofs.differences.differences_of.Statement.{statement}
 use Rattle.comparison.proofs.differences.differences_of.Tie as tie
@@ -15,34 +15,34 @@ module _ (c : tie.After-component-of) where
   abbrev start : tie.Start
   start = c.before.before
 
-  dl-is : let s = start.args in to_z w64 (of_z w64 c.component-of.result) ≡ component 20 s.l s.s.SL s.z.L
-  dl-is =
+  dl_is : let s = start.args in to_z w64 (of_z w64 c.component-of.result) ≡ component 20 s.l s.s.SL s.z.L
+  dl_is =
       let back : to_z w64 (of_z w64 c.component-of.result) ≡ c.component-of.result = search rules in
       let field : to_z w64 (of_z w64 start.args.z.L) ≡ start.args.z.L = search rules in
       back ∙ rw field at c.component-of.ensures
 
 module _ (c : tie.After-component-of2) where
-  abbrev at-dl : tie.After-component-of
-  at-dl = c.before.before
+  abbrev at_dl : tie.After-component-of
+  at_dl = c.before.before
 
-  dc-is :
-      let s = (start at-dl).args in to_z w64 (of_z w64 c.component-of2.result)
+  dc_is :
+      let s = (start at_dl).args in to_z w64 (of_z w64 c.component-of2.result)
       ≡ component 20 s.c s.s.SC s.z.C
-  dc-is =
-      let s = (start at-dl).args in
+  dc_is =
+      let s = (start at_dl).args in
       let back : to_z w64 (of_z w64 c.component-of2.result) ≡ c.component-of2.result = search rules in
       let field : to_z w64 (of_z w64 s.z.C) ≡ s.z.C = search rules in
       back ∙ rw field at c.component-of2.ensures
 
 module _ (c : tie.After-component-h) where
-  abbrev at-dc : tie.After-component-of2
-  at-dc = c.before.before
+  abbrev at_dc : tie.After-component-of2
+  at_dc = c.before.before
 
-  dh-is :
-      let s = (start (at-dl at-dc)).args in to_z w64 (of_z w64 c.component-h.result)
-      ≡ componentH 20 s.s.SH s.z.H
-  dh-is =
-      let s = (start (at-dl at-dc)).args in
+  dh_is :
+      let s = (start (at_dl at_dc)).args in to_z w64 (of_z w64 c.component-h.result)
+      ≡ component_h 20 s.s.SH s.z.H
+  dh_is =
+      let s = (start (at_dl at_dc)).args in
       let back : to_z w64 (of_z w64 c.component-h.result) ≡ c.component-h.result = search rules in
       let field : to_z w64 (of_z w64 s.z.H) ≡ s.z.H = search rules in
       back ∙ rw field at c.component-h.ensures
@@ -55,22 +55,22 @@ component-of-requires c κs =
 
 component-h-requires : tie.Need-component-h-requires
 component-h-requires c κs =
-    let s = start (at-dl c.before) in
+    let s = start (at_dl c.before) in
     let field : to_z w64 (of_z w64 s.args.z.H) ≡ s.args.z.H = search rules in
     rw field (s.pre.2.hue, omega arith)
 
 total-of-requires : tie.Need-total-of-requires
 total-of-requires c κs =
-    let s = start (at-dl (at-dc c)) in
-    rw (dl-is (at-dl (at-dc c)), dc-is (at-dc c), dh-is c)
+    let s = start (at_dl (at_dc c)) in
+    rw (dl_is (at_dl (at_dc c)), dc_is (at_dc c), dh_is c)
     (components-fit s.pre.0 s.pre.1 s.pre.2 s.pre.3)
 
 returns : tie.Need-returns
 unfolding differences
 returns c =
     let h = c.before in
-    rw (c.total_of.ensures, dl-is (at-dl (at-dc h)), dc-is (at-dc h), dh-is h)
+    rw (c.total_of.ensures, dl_is (at_dl (at_dc h)), dc_is (at_dc h), dh_is h)
 
-pub differences-of-spec : {M : Type 1} → statement M
-differences-of-spec =
+pub differences_of_spec : {M : Type 1} → statement M
+differences_of_spec =
     tie.close (tie.spec component-of-requires (λ c κs. search rules) component-h-requires total-of-requires returns)

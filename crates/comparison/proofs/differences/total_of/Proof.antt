@@ -6,7 +6,7 @@ use native.Mathlib.Omega.{arith}
 use borrow.Author.Rules.{rules}
 use lib.IntN.{ℤ}
 use mir.Facts.{to_z-of_z}
-use Rattle.rounding.specs.Root.{rootOf}
+use Rattle.rounding.specs.Root.{root_of}
 use Rattle.rounding.specs.Signed.{∣◌∣, square}
 use Rattle.sheet.specs.Ranges.{Components}
 use Rattle.sheet.specs.Sheet.{total}
@@ -19,22 +19,22 @@ squares-lt h = omega (arith, mul-le-mul h.L h.L, mul-le-mul h.C h.C, mul-le-mul 
 size_is : (c : tie.After-magnitude) → c.magnitude.result ≡ ∣ c.before.args.dh ∣
 size_is c = rw (to_z-of_z c.before.ranges.dh) at c.magnitude.ensures
 
-squares-is :
+squares_is :
     (c : tie.After-squares) → let s = c.before.before.args in c.squares.result ≡ square s.dl + square s.dc
-squares-is c = let s = c.before.before in simp (to_z-of_z, s.ranges.dl, s.ranges.dc) at c.squares.ensures
+squares_is c = let s = c.before.before in simp (to_z-of_z, s.ranges.dl, s.ranges.dc) at c.squares.ensures
 
 sum_lt :
     (c : tie.After-squares) → c.squares.result + c.before.magnitude.result * c.before.magnitude.result < 2 ^ 64
-sum_lt c = rw (squares-is c, size_is c.before) (squares-lt c.before.before.requires)
+sum_lt c = rw (squares_is c, size_is c.before) (squares-lt c.before.before.requires)
 
 returns : tie.Need-returns
 unfolding total
 returns c =
-    c.square-root.ensures ∙ ap₂ (λ (x m : ℕ). rootOf 2 (x + m * m)) (squares-is c.before)
+    c.square-root.ensures ∙ ap₂ (λ (x m : ℕ). root_of 2 (x + m * m)) (squares_is c.before)
     (size_is c.before.before)
 
-pub total-of-spec : {M : Type 1} → statement M
-total-of-spec =
+pub total_of_spec : {M : Type 1} → statement M
+total_of_spec =
     tie.close
     (tie.spec
     (λ c κs. search rules)

@@ -22,5 +22,5 @@ returns c =
     let back : to_z w64 (of_z w64 c.less.result) ≡ c.less.result = search rules in
     rw back (rw (as_is c.before.requires.0, as_is c.before.requires.1) at c.less.ensures)
 
-pub change-of-spec : {M : Type 1} → statement M
-change-of-spec = tie.close (tie.spec (λ c. search rules) (λ c. search rules) less-requires returns)
+pub change_of_spec : {M : Type 1} → statement M
+change_of_spec = tie.close (tie.spec (λ c. search rules) (λ c. search rules) less-requires returns)

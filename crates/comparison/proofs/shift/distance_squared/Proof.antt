@@ -41,8 +41,8 @@ returns : tie.Need-returns
 unfolding distance²
 returns c = c.squares.ensures ∙ ap₂ (λ (x y : ℤ). square x + square y) (Δa c.before.before) (Δb c.before)
 
-pub distance-squared-spec : {M : Type 1} → statement M
-distance-squared-spec =
+pub distance_squared_spec : {M : Type 1} → statement M
+distance_squared_spec =
     tie.close
     (tie.spec
     (λ c κs. simp (to_z-of_z, c.ranges.at, c.ranges.ar) (omega (arith, abs-sub-le c.args.at c.args.ar)))

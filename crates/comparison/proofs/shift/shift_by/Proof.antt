@@ -7,7 +7,7 @@ use borrow.Author.Rules.{rules}
 use mir.Syntax.{w64}
 use mir.Val.{to_z, of_z}
 use mir.Facts.{to_z-of_z}
-use Rattle.sheet.specs.Sheet.{change, hueChange}
+use Rattle.sheet.specs.Sheet.{change, hue_change}
 use Rattle.sheet.specs.Sheet.Laws.{change-le}
 use Rattle.comparison.proofs.shift.shift_by.Statement.{statement}
 use Rattle.comparison.proofs.shift.shift_by.Tie as tie
@@ -17,32 +17,32 @@ module _ (c : tie.After-change-of2) where
   abbrev start : tie.Start
   start = c.before.before
 
-  dl-is : to_z w64 (of_z w64 c.before.change-of.result) ≡ change start.args.lr start.args.lt
-  dl-is =
+  dl_is : to_z w64 (of_z w64 c.before.change-of.result) ≡ change start.args.lr start.args.lt
+  dl_is =
       let back : to_z w64 (of_z w64 c.before.change-of.result) ≡ c.before.change-of.result = search rules in
       back ∙ c.before.change-of.ensures
 
-  dc-is : to_z w64 (of_z w64 c.change-of2.result) ≡ change start.args.cr start.args.ct
-  dc-is =
+  dc_is : to_z w64 (of_z w64 c.change-of2.result) ≡ change start.args.cr start.args.ct
+  dc_is =
       let back : to_z w64 (of_z w64 c.change-of2.result) ≡ c.change-of2.result = search rules in
       back ∙ c.change-of2.ensures
 
 hue-change-requires : tie.Need-hue-change-requires
 hue-change-requires c κs =
     let p = (start c).requires in
-    rw (dc-is c) (change-le (2 ^ 31) (le_of_lt p.2) (le_of_lt p.3))
+    rw (dc_is c) (change-le (2 ^ 31) (le_of_lt p.2) (le_of_lt p.3))
 
 returns : tie.Need-returns
 returns c =
-    let at-dc = c.before in
-    let s = start at-dc in
+    let at_dc = c.before in
+    let s = start at_dc in
     let back : to_z w64 (of_z w64 c.hue-change.result) ≡ c.hue-change.result = search rules in
-    let dh-is =
+    let dh_is =
     back
     ∙ c.hue-change.ensures
-    ∙ (λ i. hueChange s.args.d2 (dc-is at-dc i) (to_z-of_z s.fits.x i) (to_z-of_z s.fits.y i))
+    ∙ (λ i. hue_change s.args.d2 (dc_is at_dc i) (to_z-of_z s.fits.x i) (to_z-of_z s.fits.y i))
     in
-    λ i. record { L = dl-is at-dc i; C = dc-is at-dc i; H = dh-is i }
+    λ i. record { L = dl_is at_dc i; C = dc_is at_dc i; H = dh_is i }
 
-pub shift-by-spec : {M : Type 1} → statement M
-shift-by-spec = tie.close (tie.spec (λ c κs. search rules) (λ c κs. search rules) hue-change-requires returns)
+pub shift_by_spec : {M : Type 1} → statement M
+shift_by_spec = tie.close (tie.spec (λ c κs. search rules) (λ c κs. search rules) hue-change-requires returns)

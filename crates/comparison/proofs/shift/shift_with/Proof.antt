@@ -7,62 +7,62 @@ use lib.IntN.{ℤ}
 use mir.Facts.{to_z-of_z}
 use Rattle.rounding.specs.Signed.{∣◌∣}
 use Rattle.colour.specs.declared.conversion.GridColour.{GridColour}
-use Rattle.colour.specs.Conversion.{atPlaces}
+use Rattle.colour.specs.Conversion.{at_places}
 use Rattle.colour.specs.Conversion.Ranges.{OnGrid}
-use Rattle.colour.specs.Conversion.Places.{atPlaces-20}
+use Rattle.colour.specs.Conversion.Places.{at_places_20}
 use Rattle.sheet.specs.declared.shift.Shift.{Shift}
-use Rattle.sheet.specs.Sheet.{chromaOf, distance², change, cross_of, dotOf, hueChange, shift}
-use Rattle.sheet.specs.Sheet.Bounds.{chromaOf-lt}
-use Rattle.sheet.proofs.Fits.{L-back, a_back, b-back}
+use Rattle.sheet.specs.Sheet.{chroma_of, distance², change, cross_of, dot_of, hue_change, shift}
+use Rattle.sheet.specs.Sheet.Bounds.{chroma_of-lt}
+use Rattle.sheet.proofs.Fits.{L_back, a_back, b_back}
 use Rattle.comparison.proofs.shift.shift_with.Statement.{statement}
 use Rattle.comparison.proofs.shift.shift_with.Tie as tie
 
-chroma-fits : (c : GridColour) {C : ℕ} → OnGrid c → C ≡ chromaOf (atPlaces 20 c) → C < 2 ^ 31
-chroma-fits c h e = rw e (omega (arith, chromaOf-lt h))
+chroma-fits : (c : GridColour) {C : ℕ} → OnGrid c → C ≡ chroma_of (at_places 20 c) → C < 2 ^ 31
+chroma-fits c h e = rw e (omega (arith, chroma_of-lt h))
 
 -- the shift from its parts
 shift_is :
     (r t : GridColour) {lr lt cr ct d2 : ℕ} {x y : ℤ} {z : Shift} →
     lr ≡ ∣ r.L.0 ∣ →
     lt ≡ ∣ t.L.0 ∣ →
-    cr ≡ chromaOf (atPlaces 20 r) →
-    ct ≡ chromaOf (atPlaces 20 t) →
+    cr ≡ chroma_of (at_places 20 r) →
+    ct ≡ chroma_of (at_places 20 t) →
     d2 ≡ distance² r.a.0 r.b.0 t.a.0 t.b.0 →
     x ≡ cross_of r t →
-    y ≡ dotOf r t →
-    z ≡ record { L = change lr lt; C = change cr ct; H = hueChange d2 (change cr ct) x y } →
-    z ≡ shift (atPlaces 20 r) (atPlaces 20 t)
+    y ≡ dot_of r t →
+    z ≡ record { L = change lr lt; C = change cr ct; H = hue_change d2 (change cr ct) x y } →
+    z ≡ shift (at_places 20 r) (at_places 20 t)
 unfolding shift
-shift_is r t hlr hlt hcr hct hd hx hy hz = rw (hz, hlr, hlt, hcr, hct, hd, hx, hy, atPlaces-20 r, atPlaces-20 t)
+shift_is r t hlr hlt hcr hct hd hx hy hz = rw (hz, hlr, hlt, hcr, hct, hd, hx, hy, at_places_20 r, at_places_20 t)
 
 -- ---- the lightnesses and D², as the code has them
 module _ (c : tie.After-distance-squared) where
   abbrev at_test : tie.After-magnitude2
   at_test = c.before.before.before.before.before
 
-  abbrev at-reference : tie.After-magnitude
-  at-reference = at_test.before.before
+  abbrev at_reference_lem : tie.After-magnitude
+  at_reference_lem = at_test.before.before
 
   abbrev start : tie.Start
-  start = at-reference.before.before
+  start = at_reference_lem.before.before
 
-  lr-is : at-reference.magnitude.result ≡ ∣ start.args.r.L.0 ∣
-  lr-is = at-reference.magnitude.ensures ∙ ap (λ (z : ℤ). ∣ z ∣) (L-back start.pre.R)
+  lr_is : at_reference_lem.magnitude.result ≡ ∣ start.args.r.L.0 ∣
+  lr_is = at_reference_lem.magnitude.ensures ∙ ap (λ (z : ℤ). ∣ z ∣) (L_back start.pre.R)
 
-  lt-is : at_test.magnitude2.result ≡ ∣ start.args.t.L.0 ∣
-  lt-is = at_test.magnitude2.ensures ∙ ap (λ (z : ℤ). ∣ z ∣) (L-back start.pre.T)
+  lt_is : at_test.magnitude2.result ≡ ∣ start.args.t.L.0 ∣
+  lt_is = at_test.magnitude2.ensures ∙ ap (λ (z : ℤ). ∣ z ∣) (L_back start.pre.T)
 
-  d2-is :
+  d2_is :
       let s = start.args in c.distance-squared.result ≡ distance² s.r.a.0 s.r.b.0 s.t.a.0 s.t.b.0
-  d2-is =
+  d2_is =
       let p = start.pre in
-      rw (a_back p.R, b-back p.R, a_back p.T, b-back p.T) at c.distance-squared.ensures
+      rw (a_back p.R, b_back p.R, a_back p.T, b_back p.T) at c.distance-squared.ensures
 
 shift-by-requires : tie.Need-shift-by-requires
 shift-by-requires c κs =
     let p = (start c).requires in (
-      rw (lr-is c) (omega (arith, p.R.L)),
-      rw (lt-is c) (omega (arith, p.T.L)),
+      rw (lr_is c) (omega (arith, p.R.L)),
+      rw (lt_is c) (omega (arith, p.T.L)),
       chroma-fits _ p.R p.CR,
       chroma-fits _ p.T p.CT,
     )
@@ -72,10 +72,10 @@ returns c =
     let at-d2 = c.before in
     let s = start at-d2 in
     let p = s.pre in
-    shift_is _ _ (lr-is at-d2) (lt-is at-d2) p.CR p.CT (d2-is at-d2) (to_z-of_z s.fits.x ∙ p.cross)
+    shift_is _ _ (lr_is at-d2) (lt_is at-d2) p.CR p.CT (d2_is at-d2) (to_z-of_z s.fits.x ∙ p.cross)
     (to_z-of_z s.fits.y ∙ p.dot)
     c.shift_by_lem.ensures
 
-pub shift-with-spec : {M : Type 1} → statement M
-shift-with-spec =
+pub shift_with_spec : {M : Type 1} → statement M
+shift_with_spec =
     tie.close (tie.spec (λ c κs. search rules) (λ c κs. search rules) (λ c κs. search rules) shift-by-requires returns)

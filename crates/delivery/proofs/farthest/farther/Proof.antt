@@ -1,16 +1,16 @@
 -- `farthest::farther` meets its contract: the test decides, as in the definition. Assumes nothing.
 use borrow.Author.Tests.{lt-ltb, le-ltb}
-use Rattle.delivery.specs.Farthest.{fartherOf}
+use Rattle.delivery.specs.Farthest.{farther_of}
 use Rattle.delivery.proofs.farthest.farther.Statement.{statement}
 use Rattle.delivery.proofs.farthest.farther.Tie as tie
 
 next : tie.Need-returns
-unfolding fartherOf
+unfolding farther_of
 next c = rw (lt-ltb _ _ c.if1.true)
 
 kept : tie.Need-returns-2
-unfolding fartherOf
+unfolding farther_of
 kept c = rw (le-ltb _ _ c.if1.false)
 
-pub farther-spec : {M : Type 1} → statement M
-farther-spec = tie.close (tie.spec next kept)
+pub farther_spec : {M : Type 1} → statement M
+farther_spec = tie.close (tie.spec next kept)

@@ -17,5 +17,5 @@ returns c =
     c.value.ensures ∙ ap (λ (g : Grid). value_of g.0) c.before.of-units.ensures
     ∙ ap value_of (to_z_pos w64 small)
 
-pub figure-of-spec : {M : Type 1} → statement M
-figure-of-spec = tie.close (tie.spec (λ c. search rules) (λ c κs. search rules) (λ c κs. search rules) returns)
+pub figure_of_spec : {M : Type 1} → statement M
+figure_of_spec = tie.close (tie.spec (λ c. search rules) (λ c κs. search rules) (λ c κs. search rules) returns)

@@ -4,23 +4,23 @@ use Prim.Native.Nat.{◌-◌, ◌<◌}
 use native.Mathlib.Omega.{arith}
 use borrow.Author.Rules.{rules}
 use lib.ListN.{length}
-use Rattle.cones.specs.Cones.{readingsOf, coloursIn}
-use Rattle.delivery.specs.Delivery.{differencesFrom}
-use Rattle.delivery.specs.Room.Laws.{Setting, setting-none, setting-more, setting-all}
-use Rattle.delivery.specs.Room.Laws.{room-count, room-enough, has-colour, cone-in-range, difference-small}
-use Rattle.delivery.specs.Room.Laws.{difference-at}
+use Rattle.cones.specs.Cones.{readings_of, colours_in}
+use Rattle.delivery.specs.Delivery.{differences_from}
+use Rattle.delivery.specs.Room.Laws.{Setting, setting_none, setting_more, setting_all}
+use Rattle.delivery.specs.Room.Laws.{room-count, room-enough, has-colour, cone_in_range, difference-small}
+use Rattle.delivery.specs.Room.Laws.{difference_at}
 use Rattle.delivery.proofs.farthest.write_differences.Statement.{statement}
 use Rattle.delivery.proofs.farthest.write_differences.Tie as tie
 
 abbrev invariant-loop : tie.invariant-loop
 invariant-loop kind white l c mean xs ys zs de₀ far₀ i₀ de far i =
-    Setting (differencesFrom l c mean (coloursIn white (readingsOf kind xs ys zs))) de₀ i de far
+    Setting (differences_from l c mean (colours_in white (readings_of kind xs ys zs))) de₀ i de far
 
 abbrev decreases-loop : tie.decreases-loop
 decreases-loop kind white l c mean xs ys zs de₀ far₀ i₀ de far i = length xs - i
 
 loop-holds : tie.Need-loop-init invariant-loop decreases-loop
-loop-holds c = setting-none _ _ (room-enough c.before.before.before.before.requires)
+loop-holds c = setting_none _ _ (room-enough c.before.before.before.before.requires)
 
 -- ---- a turn
 module _ (c : tie.In-loop invariant-loop decreases-loop) where
@@ -30,8 +30,8 @@ module _ (c : tie.In-loop invariant-loop decreases-loop) where
   abbrev start : tie.Start invariant-loop decreases-loop
   start = head.before.before.before.before.before
 
-  in-slice : head.loop.i < length head.loop.de
-  in-slice = omega (arith, head.loop.inv.writing.same_length, c.loop-test.true, start.pre.enough)
+  in_slice : head.loop.i < length head.loop.de
+  in_slice = omega (arith, head.loop.inv.writing.same_length, c.loop-test.true, start.pre.enough)
 
 colour-at-requires : tie.Need-colour-at-requires invariant-loop decreases-loop
 colour-at-requires c κs =
@@ -40,24 +40,24 @@ colour-at-requires c κs =
 difference-from-requires : tie.Need-difference-from-requires invariant-loop decreases-loop
 difference-from-requires c κs =
     let turn = c.before in
-    cone-in-range (start turn).requires (head turn).loop.i turn.loop-test.true c.colour-at.ensures
+    cone_in_range (start turn).requires (head turn).loop.i turn.loop-test.true c.colour-at.ensures
 
 figure-of-requires : tie.Need-figure-of-requires invariant-loop decreases-loop
 figure-of-requires c κs =
-    let at-colour = c.before in
-    let turn = at-colour.before in
-    difference-small (start turn).requires (head turn).loop.i turn.loop-test.true at-colour.colour-at.ensures
+    let at_colour = c.before in
+    let turn = at_colour.before in
+    difference-small (start turn).requires (head turn).loop.i turn.loop-test.true at_colour.colour-at.ensures
     c.difference-from.ensures
 
 loop-again : tie.Need-loop-preserved invariant-loop decreases-loop
 loop-again c =
     let at-figure = c.before in
     let at-difference = at-figure.before in
-    let at-colour = at-difference.before in
-    let turn = at-colour.before in
+    let at_colour = at-difference.before in
+    let turn = at_colour.before in
     let room = (start turn).requires in
-    setting-more _ _ (room-enough room) (head turn).loop.invariant _ (rw (room-count room) turn.loop-test.true)
-    (difference-at room (head turn).loop.i turn.loop-test.true at-colour.colour-at.ensures
+    setting_more _ _ (room-enough room) (head turn).loop.invariant _ (rw (room-count room) turn.loop-test.true)
+    (difference_at room (head turn).loop.i turn.loop-test.true at_colour.colour-at.ensures
     at-difference.difference-from.ensures)
     at-figure.figure-of.ensures c.farther.ensures
 
@@ -65,10 +65,10 @@ returns : tie.Need-returns invariant-loop decreases-loop
 returns c =
     let head = c.before in
     let room = head.before.before.before.before.before.requires in
-    setting-all _ _ (room-enough room) head.loop.invariant (rw (room-count room) c.loop-test.false)
+    setting_all _ _ (room-enough room) head.loop.invariant (rw (room-count room) c.loop-test.false)
 
-pub write-differences-spec : {M : Type 1} → statement M
-write-differences-spec =
+pub write_differences_spec : {M : Type 1} → statement M
+write_differences_spec =
     tie.close
     (tie.spec
     invariant-loop
@@ -78,7 +78,7 @@ write-differences-spec =
     difference-from-requires
     figure-of-requires
     (λ c. search rules)
-    (λ c. in-slice c.before.before.before)
+    (λ c. in_slice c.before.before.before)
     (λ c. search rules)
     (λ c κs. search rules)
     (λ c. search rules)

@@ -4,25 +4,25 @@ use native.Mathlib.Omega.{arith}
 use borrow.Author.Rules.{rules}
 use mir.Syntax.{w64}
 use mir.Val.{to_z, of_z}
-use Rattle.rounding.specs.Mean.{meanOf}
+use Rattle.rounding.specs.Mean.{mean_of}
 use Rattle.delivery.proofs.mean.mean_colour.Statement.{statement}
 use Rattle.delivery.proofs.mean.mean_colour.Tie as tie
 
 -- ---- the sums, as the code has them
 module _ (c : tie.Start) where
-  L-back : to_z w64 (of_z w64 c.args.s.L) ≡ c.args.s.L
-  L-back = search rules
+  L_back : to_z w64 (of_z w64 c.args.s.L) ≡ c.args.s.L
+  L_back = search rules
 
   a_back : to_z w64 (of_z w64 c.args.s.a) ≡ c.args.s.a
   a_back = search rules
 
-  b-back : to_z w64 (of_z w64 c.args.s.b) ≡ c.args.s.b
-  b-back = search rules
+  b_back : to_z w64 (of_z w64 c.args.s.b) ≡ c.args.s.b
+  b_back = search rules
 
 lightness : tie.Need-mean-of-requires
 lightness c κs =
     let start = c.before in
-    rw (L-back start) (start.requires.some, omega (arith, start.requires.few, start.requires.sums.L))
+    rw (L_back start) (start.requires.some, omega (arith, start.requires.few, start.requires.sums.L))
 
 red : tie.Need-mean-of-requires-2
 red c κs =
@@ -32,33 +32,33 @@ red c κs =
 yellow : tie.Need-mean-of-requires-3
 yellow c κs =
     let start = c.before.before.before.before.before in
-    rw (b-back start) (start.requires.some, omega (arith, start.requires.few, start.requires.sums.b))
+    rw (b_back start) (start.requires.some, omega (arith, start.requires.few, start.requires.sums.b))
 
 -- ---- the means
 module _ (c : tie.After-mean-of3) where
   abbrev at_a : tie.After-mean-of2
   at_a = c.before.before
 
-  abbrev at-L : tie.After-mean-of
-  at-L = at_a.before.before
+  abbrev at_L : tie.After-mean-of
+  at_L = at_a.before.before
 
   abbrev start : tie.Start
-  start = at-L.before.before
+  start = at_L.before.before
 
-  L-is : to_z w64 (of_z w64 at-L.mean-of.result) ≡ meanOf start.args.s.L start.args.n
-  L-is =
-      let back : to_z w64 (of_z w64 at-L.mean-of.result) ≡ at-L.mean-of.result = search rules in
-      back ∙ rw (L-back start) at at-L.mean-of.ensures
+  L_is : to_z w64 (of_z w64 at_L.mean-of.result) ≡ mean_of start.args.s.L start.args.n
+  L_is =
+      let back : to_z w64 (of_z w64 at_L.mean-of.result) ≡ at_L.mean-of.result = search rules in
+      back ∙ rw (L_back start) at at_L.mean-of.ensures
 
-  a-is : to_z w64 (of_z w64 at_a.mean-of2.result) ≡ meanOf start.args.s.a start.args.n
-  a-is =
+  a_is : to_z w64 (of_z w64 at_a.mean-of2.result) ≡ mean_of start.args.s.a start.args.n
+  a_is =
       let back : to_z w64 (of_z w64 at_a.mean-of2.result) ≡ at_a.mean-of2.result = search rules in
       back ∙ rw (a_back start) at at_a.mean-of2.ensures
 
-  b-is : to_z w64 (of_z w64 c.mean-of3.result) ≡ meanOf start.args.s.b start.args.n
-  b-is =
+  b_is : to_z w64 (of_z w64 c.mean-of3.result) ≡ mean_of start.args.s.b start.args.n
+  b_is =
       let back : to_z w64 (of_z w64 c.mean-of3.result) ≡ c.mean-of3.result = search rules in
-      back ∙ rw (b-back start) at c.mean-of3.ensures
+      back ∙ rw (b_back start) at c.mean-of3.ensures
 
-pub mean-colour-spec : {M : Type 1} → statement M
-mean-colour-spec = tie.close (tie.spec lightness red yellow (λ c. rw (L-is c, a-is c, b-is c)))
+pub mean_colour_spec : {M : Type 1} → statement M
+mean_colour_spec = tie.close (tie.spec lightness red yellow (λ c. rw (L_is c, a_is c, b_is c)))

@@ -6,19 +6,19 @@ use native.Mathlib.Omega.{arith}
 use borrow.Author.Rules.{rules}
 use lib.ListN.{length}
 use Rattle.colour.specs.Conversion.Ranges.{OnGrid}
-use Rattle.colour.specs.Placed.Laws.{place-on-grid}
+use Rattle.colour.specs.Placed.Laws.{place_on_grid}
 use Rattle.colour.specs.declared.conversion.GridColour.{GridColour}
 use Rattle.colour.specs.declared.white.White.{White}
-use Rattle.cones.specs.Cones.{placedTurn, turnIn}
-use Rattle.cones.specs.Cones.Laws.{PassedCones, no-cones, one-more-cone, cone-refused, all-cones}
+use Rattle.cones.specs.Cones.{placed_turn, turn_in}
+use Rattle.cones.specs.Cones.Laws.{PassedCones, no_cones, one_more_cone, cone-refused, all_cones}
 use Rattle.delivery.specs.declared.mean.Summed.TheVariants.{Of}
 use Rattle.delivery.specs.Sums.{summed}
-use Rattle.delivery.specs.Sums.Laws.{SumsAre, no-sums, one-more-sum, sums-at-most}
+use Rattle.delivery.specs.Sums.Laws.{SumsAre, no_sums, one_more_sum, sums_at_most}
 use Rattle.delivery.proofs.mean.sum_of.Statement.{statement}
 use Rattle.delivery.proofs.mean.sum_of.Tie as tie
 
 abbrev invariant-loop : tie.invariant-loop
-invariant-loop kind white xs ys zs sums₀ i₀ sums i = PassedCones (turnIn white) kind xs ys zs i (SumsAre sums)
+invariant-loop kind white xs ys zs sums₀ i₀ sums i = PassedCones (turn_in white) kind xs ys zs i (SumsAre sums)
 
 abbrev decreases-loop : tie.decreases-loop
 decreases-loop kind white xs ys zs sums₀ i₀ sums i = length xs - i
@@ -26,15 +26,15 @@ decreases-loop kind white xs ys zs sums₀ i₀ sums i = length xs - i
 loop-holds : tie.Need-loop-init invariant-loop decreases-loop
 loop-holds c =
     let start = c.before.before.before in
-    no-cones (turnIn start.args.white) start.args.kind _ _ _ no-sums
+    no_cones (turn_in start.args.white) start.args.kind _ _ _ no_sums
 
 -- ---- a cone placed
 module _ (c : tie.After-place-reading invariant-loop decreases-loop) where
-  abbrev at-reading : tie.After-reading-at invariant-loop decreases-loop
-  at-reading = c.before
+  abbrev at_reading : tie.After-reading-at invariant-loop decreases-loop
+  at_reading = c.before
 
   abbrev turn : tie.In-loop invariant-loop decreases-loop
-  turn = at-reading.before
+  turn = at_reading.before
 
   abbrev head : tie.At-loop invariant-loop decreases-loop
   head = turn.before
@@ -56,44 +56,44 @@ module _ (c : tie.After-known-told invariant-loop decreases-loop) where
   abbrev colour : GridColour
   colour = c.before.p.given.0.0
 
-  on-grid : OnGrid colour
-  on-grid = place-on-grid (white at_place) _ colour (sym at_place.place-reading.ensures ∙ c.before.p.given.1)
+  on_grid_lem : OnGrid colour
+  on_grid_lem = place_on_grid (white at_place) _ colour (sym at_place.place-reading.ensures ∙ c.before.p.given.1)
 
   few : length (head at_place).loop.inv.so_far ≤ 256
   few = omega (arith, (head at_place).loop.inv.count, (turn at_place).loop-test.taken, (start at_place).pre.few)
 
 with-colour-requires : tie.Need-with-colour-requires invariant-loop decreases-loop
 with-colour-requires c κs =
-    record { sums = sums-at-most (head (at_place c)).loop.inv.holds (few c); colour = on-grid c }
+    record { sums = sums_at_most (head (at_place c)).loop.inv.holds (few c); colour = on_grid_lem c }
 
 loop-again : tie.Need-loop-preserved invariant-loop decreases-loop
 loop-again c =
     let told = c.before in
     let p = at_place told in
-    one-more-cone (turnIn (white p)) (start p).args.kind _ _ _ (start p).pre.even (head p).loop.inv
-    (turn p).loop-test.taken (at-reading p).reading-at.ensures (colour told)
-    (ap placedTurn (sym p.place-reading.ensures ∙ told.before.p.given.1))
-    (λ us n h. one-more-sum (on-grid told) c.with-colour.ensures us h)
+    one_more_cone (turn_in (white p)) (start p).args.kind _ _ _ (start p).pre.even (head p).loop.inv
+    (turn p).loop-test.taken (at_reading p).reading-at.ensures (colour told)
+    (ap placed_turn (sym p.place-reading.ensures ∙ told.before.p.given.1))
+    (λ us n h. one_more_sum (on_grid_lem told) c.with-colour.ensures us h)
 
 refused : tie.Need-returns invariant-loop decreases-loop
 refused c =
     let p = c.before.before.before in
     sym (ap summed
-    (cone-refused (turnIn (white p)) (start p).args.kind _ _ _ (start p).requires.even (head p).loop.invariant
-    (turn p).loop-test.true (at-reading p).reading-at.ensures
-    (ap placedTurn (sym p.place-reading.ensures ∙ c.before.p2.given.1))))
+    (cone-refused (turn_in (white p)) (start p).args.kind _ _ _ (start p).requires.even (head p).loop.invariant
+    (turn p).loop-test.true (at_reading p).reading-at.ensures
+    (ap placed_turn (sym p.place-reading.ensures ∙ c.before.p2.given.1))))
 
 accepted : tie.Need-returns-2 invariant-loop decreases-loop
 accepted c =
     let head = c.before in
     let start = head.before.before.before.before in
     let all =
-    all-cones (turnIn start.args.white) start.args.kind _ _ _ start.requires.even head.loop.invariant
+    all_cones (turn_in start.args.white) start.args.kind _ _ _ start.requires.even head.loop.invariant
     c.loop-test.false in
     ap Of all.holds.is ∙ sym (ap summed all.is)
 
-pub sum-of-spec : {M : Type 1} → statement M
-sum-of-spec =
+pub sum_of_spec : {M : Type 1} → statement M
+sum_of_spec =
     tie.close
     (tie.spec
     invariant-loop

@@ -2,31 +2,31 @@
 use borrow.Author.Rules.{rules}
 use borrow.Author.Tests.{le-leb, lt-leb}
 use Rattle.sheet.specs.Settings.{within}
-use Rattle.delivery.specs.Sorted.{isShaped}
+use Rattle.delivery.specs.Sorted.{is_shaped}
 use Rattle.delivery.proofs.sorted.is_shaped.Statement.{statement}
 use Rattle.delivery.proofs.sorted.is_shaped.Tie as tie
 
 too_few : tie.Need-returns
-unfolding isShaped within
+unfolding is_shaped within
 too_few c = rw (lt-leb _ _ c.if1.true)
 
 too_many : tie.Need-returns-2
-unfolding isShaped within
+unfolding is_shaped within
 too_many c = rw (le-leb _ _ c.before.if1.false, lt-leb _ _ c.if2.true)
 
 no_room : tie.Need-returns-3
-unfolding isShaped within
+unfolding is_shaped within
 no_room c =
     let few = c.before in
     rw (le-leb _ _ few.before.if1.false, le-leb _ _ few.if2.false, lt-leb _ _ c.if3.true)
 
 last : tie.Need-returns-4
-unfolding isShaped within
+unfolding is_shaped within
 last c =
     let enough = c.before in
     let few = enough.before in
     rw (le-leb _ _ few.before.if1.false, le-leb _ _ few.if2.false, le-leb _ _ enough.if3.false)
     c.is-even.ensures
 
-pub is-shaped-spec : {M : Type 1} → statement M
-is-shaped-spec = tie.close (tie.spec too_few too_many no_room (λ c κs. search rules) last)
+pub is_shaped_spec : {M : Type 1} → statement M
+is_shaped_spec = tie.close (tie.spec too_few too_many no_room (λ c κs. search rules) last)

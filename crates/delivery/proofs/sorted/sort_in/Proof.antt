@@ -1,7 +1,7 @@
 -- `sorted::sort_in` meets its contract: one law of `Sorted/Ways.antt` for each way out. Assumes nothing.
 use native.Mathlib.Omega.{arith}
 use borrow.Author.Rules.{rules}
-use Rattle.delivery.specs.Sorted.Ways.{gives-refused, can-share, has_room, gives_whole}
+use Rattle.delivery.specs.Sorted.Ways.{gives_refused, can_share, has_room, gives_whole}
 use Rattle.delivery.proofs.sorted.sort_in.Statement.{statement}
 use Rattle.delivery.proofs.sorted.sort_in.Tie as tie
 
@@ -16,28 +16,28 @@ module _ (c : tie.After-sum-of) where
 
 refused : tie.Need-returns
 refused c =
-    let at-number = c.before.before in
-    let at-sums = at-number.before.before in
-    let a = (start at-sums).args in
-    gives-refused a.kind a.white (start at-sums).requires at-sums.sum_of.ensures at-number.number.given.1
+    let at_number = c.before.before in
+    let at_sums = at_number.before.before in
+    let a = (start at_sums).args in
+    gives_refused a.kind a.white (start at_sums).requires at_sums.sum_of.ensures at_number.number.given.1
     c.refused.ensures
 
 -- ---- every cone accepted
 module _ (c : tie.After-known-told2) where
-  abbrev at-sums : tie.After-sum-of
-  at-sums = c.before.before.before
+  abbrev at_sums : tie.After-sum-of
+  at_sums = c.before.before.before
 
 mean-colour-requires : tie.Need-mean-colour-requires
 mean-colour-requires c κs =
-    let a = (start (at-sums c)).args in
-    can-share a.kind a.white (start (at-sums c)).pre (at-sums c).sum_of.ensures c.before.sums.given.1
+    let a = (start (at_sums c)).args in
+    can_share a.kind a.white (start (at_sums c)).pre (at_sums c).sum_of.ensures c.before.sums.given.1
 
 write-differences-requires : tie.Need-write-differences-requires
 write-differences-requires c κs =
     let at-mean = c.before in
     let told = at-mean.before in
-    let a = (start (at-sums told)).args in
-    has_room a.kind a.white (start (at-sums told)).pre (at-sums told).sum_of.ensures
+    let a = (start (at_sums told)).args in
+    has_room a.kind a.white (start (at_sums told)).pre (at_sums told).sum_of.ensures
     told.before.sums.given.1 at-mean.mean-colour.ensures
 
 accepted : tie.Need-returns-2
@@ -45,18 +45,18 @@ accepted c =
     let at-write = c.before.before.before.before.before in
     let at-mean = at-write.before.before in
     let told = at-mean.before in
-    let a = (start (at-sums told)).args in
-    gives_whole a.kind a.white (start (at-sums told)).pre (at-sums told).sum_of.ensures
+    let a = (start (at_sums told)).args in
+    gives_whole a.kind a.white (start (at_sums told)).pre (at_sums told).sum_of.ensures
     told.before.sums.given.1 at-mean.mean-colour.ensures at-write.write-differences.ensures
     c.before.before.value.ensures c.before.value2.ensures c.value3.ensures
 
 few : tie.Need-overflow-cast-t23
 few c =
     let told = c.before.before.before.before.before.before.before.before in
-    omega (arith, (start (at-sums told)).pre.shape.few)
+    omega (arith, (start (at_sums told)).pre.shape.few)
 
-pub sort-in-spec : {M : Type 1} → statement M
-sort-in-spec =
+pub sort_in_spec : {M : Type 1} → statement M
+sort_in_spec =
     tie.close
     (tie.spec
     sum-of-requires

@@ -8,5 +8,5 @@ returns c =
     let at-shown = c.before in
     rw at-shown.figure-of.ensures at c.decimal-len.ensures
 
-pub figure-len-spec : {M : Type 1} → statement M
-figure-len-spec = tie.close (tie.spec (λ c κs. search rules) (λ c κs. search rules) returns)
+pub figure_len_spec : {M : Type 1} → statement M
+figure_len_spec = tie.close (tie.spec (λ c κs. search rules) (λ c κs. search rules) returns)

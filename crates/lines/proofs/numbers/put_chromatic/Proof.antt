@@ -4,7 +4,7 @@ use Prim.Native.Nat.{ℕ}
 use borrow.Author.Rules.{rules}
 use Rattle.text.specs.Ascii.{ascii}
 use Rattle.text.specs.Put.{line}
-use Rattle.text.specs.Put.Laws.{room-for-all, room-first, room-second, puts-two, puts-joined}
+use Rattle.text.specs.Put.Laws.{room_for_all, room_first, room-second, puts_two, puts_joined}
 use Rattle.lines.proofs.numbers.put_chromatic.Statement.{statement}
 use Rattle.lines.proofs.numbers.put_chromatic.Tie as tie
 
@@ -16,15 +16,15 @@ unfolding line
 put-requires c κs =
     let arm = c.before in
     let start = arm.before.before.before in
-    room-first (room-for-all (pieces _) (rw arm.if1.true at start.requires))
+    room_first (room_for_all (pieces _) (rw arm.if1.true at start.requires))
 
-put-requires-2 : tie.Need-put-requires-2
+put_requires_2 : tie.Need-put-requires-2
 unfolding line
-put-requires-2 c κs =
+put_requires_2 c κs =
     let key = c.before.before.before.before in
     let arm = key.before.before in
     let start = arm.before.before.before in
-    room-second (room-for-all (pieces _) (rw arm.if1.true at start.requires)) key.put.ensures
+    room-second (room_for_all (pieces _) (rw arm.if1.true at start.requires)) key.put.ensures
 
 withheld : tie.Need-returns
 unfolding line
@@ -33,8 +33,8 @@ withheld c =
     let key = word.before.before.before.before.before in
     let arm = key.before.before in
     let start = arm.before.before.before in
-    let row = room-for-all (pieces _) (rw arm.if1.true at start.requires) in
-    rw arm.if1.true (puts-joined (puts-two row key.put.ensures word.put2.ensures))
+    let row = room_for_all (pieces _) (rw arm.if1.true at start.requires) in
+    rw arm.if1.true (puts_joined (puts_two row key.put.ensures word.put2.ensures))
 
 put-number-requires : tie.Need-put-number-requires
 put-number-requires c κs =
@@ -46,13 +46,13 @@ shown c =
     let number = c.before.before in
     rw number.before.before.if1.false number.put-number.ensures
 
-pub put-chromatic-spec : {M : Type 1} → statement M
-put-chromatic-spec =
+pub put_chromatic_spec : {M : Type 1} → statement M
+put_chromatic_spec =
     tie.close
     (tie.spec
     put-requires
     (λ c. search rules)
-    put-requires-2
+    put_requires_2
     (λ c. search rules)
     withheld
     put-number-requires

@@ -3,36 +3,36 @@ use borrow.Author.Rules.{rules}
 use mathlib.Core.List.{List, [], ◌∷◌}
 use Prim.Native.Nat.{ℕ}
 use Rattle.text.specs.Ascii.{ascii}
-use Rattle.text.specs.Decimal.{decimalText}
+use Rattle.text.specs.Decimal.{decimal_text}
 use Rattle.text.specs.Put.{line}
-use Rattle.text.specs.Put.Laws.{room-for-all, room-first, room-second, room-third, puts-three, puts-joined}
+use Rattle.text.specs.Put.Laws.{room_for_all, room_first, room-second, room-third, puts_three, puts_joined}
 use Rattle.text.specs.declared.decimal.Shown.{Shown}
 use Rattle.lines.proofs.numbers.put_number.Statement.{statement}
 use Rattle.lines.proofs.numbers.put_number.Tie as tie
 
 abbrev pieces : List ℕ → Shown → List (List ℕ)
-pieces key d = key ∷ decimalText d ∷ ascii "\n" ∷ []
+pieces key d = key ∷ decimal_text d ∷ ascii "\n" ∷ []
 
 put-requires : tie.Need-put-requires
 unfolding line
 put-requires c κs =
     let start = c.before.before.before in
-    room-first (room-for-all (pieces start.args.key.now start.args.d) start.requires)
+    room_first (room_for_all (pieces start.args.key.now start.args.d) start.requires)
 
 put-decimal-requires : tie.Need-put-decimal-requires
 unfolding line
 put-decimal-requires c κs =
     let key = c.before.before.before in
     let start = key.before.before.before.before in
-    room-second (room-for-all (pieces start.args.key.now start.args.d) start.requires) key.put.ensures
+    room-second (room_for_all (pieces start.args.key.now start.args.d) start.requires) key.put.ensures
 
-put-requires-2 : tie.Need-put-requires-2
+put_requires_2 : tie.Need-put-requires-2
 unfolding line
-put-requires-2 c κs =
+put_requires_2 c κs =
     let number = c.before.before.before.before in
     let key = number.before.before.before.before in
     let start = key.before.before.before.before in
-    let row = room-for-all (pieces start.args.key.now start.args.d) start.requires in
+    let row = room_for_all (pieces start.args.key.now start.args.d) start.requires in
     room-third row key.put.ensures number.put-decimal.ensures
 
 returns : tie.Need-returns
@@ -42,10 +42,10 @@ returns c =
     let number = end.before.before.before.before.before in
     let key = number.before.before.before.before in
     let start = key.before.before.before.before in
-    let row = room-for-all (pieces start.args.key.now start.args.d) start.requires in
-    puts-joined (puts-three row key.put.ensures number.put-decimal.ensures end.put2.ensures)
+    let row = room_for_all (pieces start.args.key.now start.args.d) start.requires in
+    puts_joined (puts_three row key.put.ensures number.put-decimal.ensures end.put2.ensures)
 
-pub put-number-spec : {M : Type 1} → statement M
-put-number-spec =
+pub put_number_spec : {M : Type 1} → statement M
+put_number_spec =
     tie.close
-    (tie.spec put-requires put-decimal-requires (λ c. search rules) put-requires-2 (λ c. search rules) returns)
+    (tie.spec put-requires put-decimal-requires (λ c. search rules) put_requires_2 (λ c. search rules) returns)

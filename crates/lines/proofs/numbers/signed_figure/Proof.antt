@@ -11,5 +11,5 @@ returns c =
     let back = to_z-of_z size.before.ranges.z in
     c.figure-of.ensures ∙ rw (back, rw back at size.magnitude.ensures)
 
-pub signed-figure-spec : {M : Type 1} → statement M
-signed-figure-spec = tie.close (tie.spec (λ c κs. search rules) (λ c κs. search rules) returns)
+pub signed_figure_spec : {M : Type 1} → statement M
+signed_figure_spec = tie.close (tie.spec (λ c κs. search rules) (λ c κs. search rules) returns)

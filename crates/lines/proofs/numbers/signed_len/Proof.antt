@@ -9,5 +9,5 @@ returns c =
     let at-shown = c.before in
     rw (at-shown.signed-figure.ensures, to_z-of_z at-shown.before.ranges.z) at c.decimal-len.ensures
 
-pub signed-len-spec : {M : Type 1} → statement M
-signed-len-spec = tie.close (tie.spec (λ c κs. search rules) (λ c κs. search rules) returns)
+pub signed_len_spec : {M : Type 1} → statement M
+signed_len_spec = tie.close (tie.spec (λ c κs. search rules) (λ c κs. search rules) returns)

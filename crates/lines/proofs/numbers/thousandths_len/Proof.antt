@@ -8,5 +8,5 @@ returns c =
     let at-shown = c.before in
     rw at-shown.thousandths-of.ensures at c.decimal-len.ensures
 
-pub thousandths-len-spec : {M : Type 1} → statement M
-thousandths-len-spec = tie.close (tie.spec (λ c κs. search rules) (λ c κs. search rules) returns)
+pub thousandths_len_spec : {M : Type 1} → statement M
+thousandths_len_spec = tie.close (tie.spec (λ c κs. search rules) (λ c κs. search rules) returns)

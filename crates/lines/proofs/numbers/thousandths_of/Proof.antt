@@ -6,5 +6,5 @@ use Rattle.lines.proofs.numbers.thousandths_of.Tie as tie
 returns : tie.Need-returns
 returns c = refl
 
-pub thousandths-of-spec : {M : Type 1} → statement M
-thousandths-of-spec = tie.close (tie.spec returns)
+pub thousandths_of_spec : {M : Type 1} → statement M
+thousandths_of_spec = tie.close (tie.spec returns)

@@ -12,8 +12,8 @@ axes c =
     let shown = arm.before.before in
     rw (shown.if1.false, arm.x.given.1, axes-length) (omega arith, omega arith)
 
-pub hue-len-spec : {M : Type 1} → statement M
-hue-len-spec =
+pub hue_len_spec : {M : Type 1} → statement M
+hue_len_spec =
     tie.close
     (tie.spec
     (λ c. search rules)

@@ -1,8 +1,8 @@
 -- Five pieces, one after the other. Assumes nothing.
 use borrow.Author.Rules.{rules}
-use Rattle.text.specs.Put.Laws.{room-for-all, room-second, room-third, room-fourth, room-rest, puts-more, puts-four}
-use Rattle.text.specs.Put.Laws.{puts-joined}
-use Rattle.lines.specs.Lines.Laws.{axesPieces}
+use Rattle.text.specs.Put.Laws.{room_for_all, room-second, room-third, room-fourth, room-rest, puts_more, puts_four}
+use Rattle.text.specs.Put.Laws.{puts_joined}
+use Rattle.lines.specs.Lines.Laws.{axes_pieces}
 use Rattle.lines.proofs.words.put_axes.Statement.{statement}
 use Rattle.lines.proofs.words.put_axes.Tie as tie
 
@@ -10,14 +10,14 @@ name-requires : tie.Need-put-axis-requires
 name-requires c κs =
     let key = c.before.before.before in
     let start = key.before.before.before.before in
-    room-second (room-for-all (axesPieces start.args.name start.args.bracket) start.requires) key.put.ensures
+    room-second (room_for_all (axes_pieces start.args.name start.args.bracket) start.requires) key.put.ensures
 
 paren-requires : tie.Need-put-requires-2
 paren-requires c κs =
     let name = c.before.before.before.before in
     let key = name.before.before.before.before in
     let start = key.before.before.before.before in
-    let row = room-for-all (axesPieces start.args.name start.args.bracket) start.requires in
+    let row = room_for_all (axes_pieces start.args.name start.args.bracket) start.requires in
     room-third row key.put.ensures name.put-axis.ensures
 
 bracket-requires : tie.Need-put-axis-requires-2
@@ -26,7 +26,7 @@ bracket-requires c κs =
     let name = paren.before.before.before.before.before in
     let key = name.before.before.before.before in
     let start = key.before.before.before.before in
-    let row = room-for-all (axesPieces start.args.name start.args.bracket) start.requires in
+    let row = room_for_all (axes_pieces start.args.name start.args.bracket) start.requires in
     room-fourth row key.put.ensures name.put-axis.ensures paren.put2.ensures
 
 end-requires : tie.Need-put-requires-3
@@ -37,7 +37,7 @@ end-requires c κs =
     let key = name.before.before.before.before in
     let start = key.before.before.before.before in
     let row =
-    room-rest (room-for-all (axesPieces start.args.name start.args.bracket) start.requires) key.put.ensures in
+    room-rest (room_for_all (axes_pieces start.args.name start.args.bracket) start.requires) key.put.ensures in
     room-fourth row name.put-axis.ensures paren.put2.ensures bracket.put-axis2.ensures
 
 returns : tie.Need-returns
@@ -48,14 +48,14 @@ returns c =
     let name = paren.before.before.before.before.before in
     let key = name.before.before.before.before in
     let start = key.before.before.before.before in
-    let all = room-for-all (axesPieces start.args.name start.args.bracket) start.requires in
+    let all = room_for_all (axes_pieces start.args.name start.args.bracket) start.requires in
     let row = room-rest all key.put.ensures in
     let four =
-    puts-four row name.put-axis.ensures paren.put2.ensures bracket.put-axis2.ensures end.put3.ensures in
-    puts-joined (puts-more all key.put.ensures four)
+    puts_four row name.put-axis.ensures paren.put2.ensures bracket.put-axis2.ensures end.put3.ensures in
+    puts_joined (puts_more all key.put.ensures four)
 
-pub put-axes-spec : {M : Type 1} → statement M
-put-axes-spec =
+pub put_axes_spec : {M : Type 1} → statement M
+put_axes_spec =
     tie.close
     (tie.spec
     (λ c. search rules)

@@ -5,9 +5,9 @@ use Rattle.text.specs.Put.{line}
 use Rattle.lines.proofs.words.put_chroma.Statement.{statement}
 use Rattle.lines.proofs.words.put_chroma.Tie as tie
 
-pub put-chroma-spec : {M : Type 1} → statement M
+pub put_chroma_spec : {M : Type 1} → statement M
 unfolding line
-put-chroma-spec =
+put_chroma_spec =
     tie.close
     (tie.spec
     (λ c. refl)

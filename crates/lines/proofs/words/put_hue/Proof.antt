@@ -2,7 +2,7 @@
 use mathlib.Core.Path.{refl, sym}
 use borrow.Author.Rules.{rules}
 use Rattle.text.specs.Put.{line}
-use Rattle.text.specs.Put.Laws.{room_as, puts-as}
+use Rattle.text.specs.Put.Laws.{room_as, puts_as}
 use Rattle.lines.specs.Lines.Laws.{hue-axes}
 use Rattle.lines.proofs.words.put_hue.Statement.{statement}
 use Rattle.lines.proofs.words.put_hue.Tie as tie
@@ -19,11 +19,11 @@ axes c =
     let put = c.before.before in
     let arm = put.before.before.before in
     rw (arm.before.before.if1.false, arm.x.given.1)
-    (puts-as (sym (hue-axes arm.x.given.0.0 arm.x.given.0.1.0)) put.put-axes.ensures)
+    (puts_as (sym (hue-axes arm.x.given.0.0 arm.x.given.0.1.0)) put.put-axes.ensures)
 
-pub put-hue-spec : {M : Type 1} → statement M
+pub put_hue_spec : {M : Type 1} → statement M
 unfolding line
-put-hue-spec =
+put_hue_spec =
     tie.close
     (tie.spec
     (λ c. refl)

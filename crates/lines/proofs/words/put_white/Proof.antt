@@ -5,45 +5,45 @@ use Prim.Native.Nat.{ℕ}
 use borrow.Author.Rules.{rules}
 use Rattle.colour.specs.declared.white.White.{White}
 use Rattle.text.specs.Ascii.{ascii}
-use Rattle.text.specs.Names.{whiteName}
+use Rattle.text.specs.Names.{white_name}
 use Rattle.text.specs.Put.{line}
-use Rattle.text.specs.Put.Laws.{room-in-arm, puts-in-arm}
+use Rattle.text.specs.Put.Laws.{room_in_arm, puts_in_arm}
 use Rattle.lines.proofs.words.put_white.Statement.{statement}
 use Rattle.lines.proofs.words.put_white.Tie as tie
 
 abbrev text : White → List ℕ
-text w = line (ascii "white=") (whiteName w)
+text w = line (ascii "white=") (white_name w)
 
-pub put-white-spec : {M : Type 1} → statement M
+pub put_white_spec : {M : Type 1} → statement M
 unfolding line
-put-white-spec =
+put_white_spec =
     tie.close
     (tie.spec
     (λ c. search rules)
     (λ c. refl)
-    (λ c κs. let arm = c.before.before in room-in-arm text arm.enum_told.given.1
+    (λ c κs. let arm = c.before.before in room_in_arm text arm.enum_told.given.1
     arm.before.before.before.requires)
     (λ c. search rules)
     (λ c. refl)
-    (λ c κs. let arm = c.before.before in room-in-arm text arm.enum-told2.given.1
+    (λ c κs. let arm = c.before.before in room_in_arm text arm.enum-told2.given.1
     arm.before.before.before.requires)
     (λ c. search rules)
     (λ c. refl)
-    (λ c κs. let arm = c.before.before in room-in-arm text arm.enum-told3.given.1
+    (λ c κs. let arm = c.before.before in room_in_arm text arm.enum-told3.given.1
     arm.before.before.before.requires)
     (λ c. search rules)
     (λ c. refl)
-    (λ c κs. let arm = c.before.before in room-in-arm text arm.enum-told4.given.1
+    (λ c κs. let arm = c.before.before in room_in_arm text arm.enum-told4.given.1
     arm.before.before.before.requires)
     (λ c. search rules)
-    (λ c. let put = c.before.before in puts-in-arm text put.before.before.before.enum_told.given.1
+    (λ c. let put = c.before.before in puts_in_arm text put.before.before.before.enum_told.given.1
     put.put.ensures)
     (λ c. search rules)
-    (λ c. let put = c.before.before in puts-in-arm text put.before.before.before.enum-told2.given.1
+    (λ c. let put = c.before.before in puts_in_arm text put.before.before.before.enum-told2.given.1
     put.put2.ensures)
     (λ c. search rules)
-    (λ c. let put = c.before.before in puts-in-arm text put.before.before.before.enum-told3.given.1
+    (λ c. let put = c.before.before in puts_in_arm text put.before.before.before.enum-told3.given.1
     put.put3.ensures)
     (λ c. search rules)
-    (λ c. let put = c.before.before in puts-in-arm text put.before.before.before.enum-told4.given.1
+    (λ c. let put = c.before.before in puts_in_arm text put.before.before.before.enum-told4.given.1
     put.put4.ensures))

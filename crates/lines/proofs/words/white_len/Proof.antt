@@ -3,31 +3,31 @@ use mathlib.Core.Path.{sym, ap}
 use native.Mathlib.Omega.{arith}
 use borrow.Author.Rules.{rules}
 use lib.ListN.{length}
-use Rattle.text.specs.Names.{whiteName}
+use Rattle.text.specs.Names.{white_name}
 use Rattle.lines.proofs.words.white_len.Statement.{statement}
 use Rattle.lines.proofs.words.white_len.Tie as tie
 
-d65-10 : tie.Need-returns
-d65-10 c = (sym (ap (λ x. length (whiteName x)) c.enum_told.given.1), omega arith)
+d65_10 : tie.Need-returns
+d65_10 c = (sym (ap (λ x. length (white_name x)) c.enum_told.given.1), omega arith)
 
-d65-2 : tie.Need-returns-2
-d65-2 c = (sym (ap (λ x. length (whiteName x)) c.enum-told2.given.1), omega arith)
+d65_2 : tie.Need-returns-2
+d65_2 c = (sym (ap (λ x. length (white_name x)) c.enum-told2.given.1), omega arith)
 
-c-10 : tie.Need-returns-3
-c-10 c = (sym (ap (λ x. length (whiteName x)) c.enum-told3.given.1), omega arith)
+c_10 : tie.Need-returns-3
+c_10 c = (sym (ap (λ x. length (white_name x)) c.enum-told3.given.1), omega arith)
 
 c_2 : tie.Need-returns-4
-c_2 c = (sym (ap (λ x. length (whiteName x)) c.enum-told4.given.1), omega arith)
+c_2 c = (sym (ap (λ x. length (white_name x)) c.enum-told4.given.1), omega arith)
 
-pub white-len-spec : {M : Type 1} → statement M
-white-len-spec =
+pub white_len_spec : {M : Type 1} → statement M
+white_len_spec =
     tie.close
     (tie.spec
     (λ c. search rules)
     (λ c. search rules)
     (λ c. search rules)
     (λ c. search rules)
-    d65-10
-    d65-2
-    c-10
+    d65_10
+    d65_2
+    c_10
     c_2)

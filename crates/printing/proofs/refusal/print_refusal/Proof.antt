@@ -1,14 +1,14 @@
 -- The line is put where there is room for the whole of it. Assumes nothing.
 use native.Mathlib.Omega.{arith}
 use borrow.Author.Rules.{rules}
-use Rattle.printing.specs.Printed.Laws.{refusal-length, prints-put, prints-nothing}
+use Rattle.printing.specs.Printed.Laws.{refusal-length, prints_put, prints_nothing}
 use Rattle.printing.proofs.refusal.print_refusal.Statement.{statement}
 use Rattle.printing.proofs.refusal.print_refusal.Tie as tie
 
 too_short : tie.Need-returns
 too_short c =
     let a = c.before.before.before.before.args in
-    prints-nothing _ _ (omega (arith, refusal-length a.number a.line))
+    prints_nothing _ _ (omega (arith, refusal-length a.number a.line))
 
 room : tie.Need-put-refusal-requires
 room c κs =
@@ -20,10 +20,10 @@ put c =
     let at-put = c.before.before in
     let fits = at-put.before.before in
     let a = fits.before.before.before.before.args in
-    prints-put (omega (arith, refusal-length a.number a.line)) at-put.put-refusal.ensures
+    prints_put (omega (arith, refusal-length a.number a.line)) at-put.put-refusal.ensures
 
-pub print-refusal-spec : {M : Type 1} → statement M
-print-refusal-spec =
+pub print_refusal_spec : {M : Type 1} → statement M
+print_refusal_spec =
     tie.close
     (tie.spec
     (λ c κs. search rules)

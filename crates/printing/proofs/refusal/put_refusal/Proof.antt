@@ -1,18 +1,18 @@
 -- Five pieces, one after the other. Assumes nothing.
 use borrow.Author.Rules.{rules}
-use Rattle.text.specs.Put.Laws.{RoomForAll, room-for-all, room-first, room-second, room-third, room-fourth, room-rest}
-use Rattle.text.specs.Put.Laws.{puts-more, puts-four, puts-joined}
-use Rattle.printing.specs.Printed.{refusalPieces, refusalLine}
+use Rattle.text.specs.Put.Laws.{RoomForAll, room_for_all, room_first, room-second, room-third, room-fourth, room-rest}
+use Rattle.text.specs.Put.Laws.{puts_more, puts_four, puts_joined}
+use Rattle.printing.specs.Printed.{refusal_pieces, refusal_line}
 use Rattle.printing.proofs.refusal.put_refusal.Statement.{statement}
 use Rattle.printing.proofs.refusal.put_refusal.Tie as tie
 
 -- the whole row has room
-row : (c : tie.Start) → RoomForAll c.args.dst.now 0 (refusalPieces c.args.number c.args.line)
-unfolding refusalLine
-row c = room-for-all (refusalPieces c.args.number c.args.line) c.requires
+row : (c : tie.Start) → RoomForAll c.args.dst.now 0 (refusal_pieces c.args.number c.args.line)
+unfolding refusal_line
+row c = room_for_all (refusal_pieces c.args.number c.args.line) c.requires
 
 refused-requires : tie.Need-put-requires
-refused-requires c κs = room-first (row c.before.before.before)
+refused-requires c κs = room_first (row c.before.before.before)
 
 number-requires : tie.Need-put-whole-requires
 number-requires c κs =
@@ -43,7 +43,7 @@ end-requires c κs =
     room-fourth rest number.put_whole.ensures key.put2.ensures line.put-whole2.ensures
 
 returns : tie.Need-returns
-unfolding refusalLine
+unfolding refusal_line
 returns c =
     let end = c.before.before in
     let line = end.before.before.before.before.before in
@@ -52,12 +52,12 @@ returns c =
     let refused = number.before.before.before.before in
     let all = row refused.before.before.before.before in
     let rest = room-rest all refused.put.ensures in
-    puts-joined
-    (puts-more all refused.put.ensures
-    (puts-four rest number.put_whole.ensures key.put2.ensures line.put-whole2.ensures end.put3.ensures))
+    puts_joined
+    (puts_more all refused.put.ensures
+    (puts_four rest number.put_whole.ensures key.put2.ensures line.put-whole2.ensures end.put3.ensures))
 
-pub put-refusal-spec : {M : Type 1} → statement M
-put-refusal-spec =
+pub put_refusal_spec : {M : Type 1} → statement M
+put_refusal_spec =
     tie.close
     (tie.spec
     (λ c. search rules)

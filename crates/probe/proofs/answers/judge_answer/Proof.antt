@@ -1,12 +1,12 @@
 -- `judge_answer` meets its contract: it is the specimen of what is handed back. Assumes nothing.
 use borrow.Author.Rules.{rules}
 use mathlib.Core.Path.{◌∙◌, ap}
-use Rattle.probe.specs.Answers.{specimenOf}
+use Rattle.probe.specs.Answers.{specimen_of}
 use Rattle.probe.proofs.answers.judge_answer.Statement.{statement}
 use Rattle.probe.proofs.answers.judge_answer.Tie as tie
 
 answered : tie.Need-returns
-answered c = c.specimen-of.ensures ∙ ap specimenOf c.before.judge-figures.ensures
+answered c = c.specimen-of.ensures ∙ ap specimen_of c.before.judge-figures.ensures
 
-pub judge-answer-spec : {M : Type 1} → statement M
-judge-answer-spec = tie.close (tie.spec (λ c κs. search rules) (λ c κs. search rules) answered)
+pub judge_answer_spec : {M : Type 1} → statement M
+judge_answer_spec = tie.close (tie.spec (λ c κs. search rules) (λ c κs. search rules) answered)

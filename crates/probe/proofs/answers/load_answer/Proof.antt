@@ -1,13 +1,13 @@
 -- `load_answer` meets its contract, field by field. Assumes nothing.
 use borrow.Author.Rules.{rules}
 use mathlib.Core.Path.{ap}
-use Rattle.probe.specs.Answers.{referenceOf}
+use Rattle.probe.specs.Answers.{reference_of}
 use Rattle.probe.proofs.answers.load_answer.Statement.{statement}
 use Rattle.probe.proofs.answers.load_answer.Tie as tie
 
 answered : tie.Need-returns
-unfolding referenceOf
-answered c = ap referenceOf c.load-figures.ensures
+unfolding reference_of
+answered c = ap reference_of c.load-figures.ensures
 
-pub load-answer-spec : {M : Type 1} → statement M
-load-answer-spec = tie.close (tie.spec (λ c κs. search rules) answered)
+pub load_answer_spec : {M : Type 1} → statement M
+load_answer_spec = tie.close (tie.spec (λ c κs. search rules) answered)

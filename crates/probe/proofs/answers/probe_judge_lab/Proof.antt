@@ -6,5 +6,5 @@ use Rattle.probe.proofs.answers.probe_judge_lab.Tie as tie
 returns : tie.Need-returns
 returns c = c.judge-answer.ensures
 
-pub probe-judge-lab-spec : {M : Type 1} → statement M
-probe-judge-lab-spec = tie.close (tie.spec (λ c κs. search rules) returns)
+pub probe_judge_lab_spec : {M : Type 1} → statement M
+probe_judge_lab_spec = tie.close (tie.spec (λ c κs. search rules) returns)

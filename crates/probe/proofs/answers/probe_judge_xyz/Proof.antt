@@ -6,5 +6,5 @@ use Rattle.probe.proofs.answers.probe_judge_xyz.Tie as tie
 returns : tie.Need-returns
 returns c = c.judge-answer.ensures
 
-pub probe-judge-xyz-spec : {M : Type 1} → statement M
-probe-judge-xyz-spec = tie.close (tie.spec (λ c κs. search rules) returns)
+pub probe_judge_xyz_spec : {M : Type 1} → statement M
+probe_judge_xyz_spec = tie.close (tie.spec (λ c κs. search rules) returns)

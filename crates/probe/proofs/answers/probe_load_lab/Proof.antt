@@ -6,5 +6,5 @@ use Rattle.probe.proofs.answers.probe_load_lab.Tie as tie
 returns : tie.Need-returns
 returns c = c.load-answer.ensures
 
-pub probe-load-lab-spec : {M : Type 1} → statement M
-probe-load-lab-spec = tie.close (tie.spec (λ c κs. search rules) returns)
+pub probe_load_lab_spec : {M : Type 1} → statement M
+probe_load_lab_spec = tie.close (tie.spec (λ c κs. search rules) returns)

@@ -6,5 +6,5 @@ use Rattle.probe.proofs.answers.probe_load_xyz.Tie as tie
 returns : tie.Need-returns
 returns c = c.load-answer.ensures
 
-pub probe-load-xyz-spec : {M : Type 1} → statement M
-probe-load-xyz-spec = tie.close (tie.spec (λ c κs. search rules) returns)
+pub probe_load_xyz_spec : {M : Type 1} → statement M
+probe_load_xyz_spec = tie.close (tie.spec (λ c κs. search rules) returns)

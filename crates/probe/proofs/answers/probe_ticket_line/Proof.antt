@@ -8,5 +8,5 @@ use Rattle.probe.proofs.answers.probe_ticket_line.Tie as tie
 answered : tie.Need-returns
 answered c = ap (λ (x : TicketAnswer). x.line) c.ticket-figures.ensures
 
-pub probe-ticket-line-spec : {M : Type 1} → statement M
-probe-ticket-line-spec = tie.close (tie.spec (λ c κs. search rules) answered)
+pub probe_ticket_line_spec : {M : Type 1} → statement M
+probe_ticket_line_spec = tie.close (tie.spec (λ c κs. search rules) answered)

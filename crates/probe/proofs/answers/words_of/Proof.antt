@@ -11,22 +11,22 @@ nothing c = rw c.enum_told.given.1
 named : tie.Need-returns-2
 unfolding words_of
 named c =
-    let at_Bracket = c.before in
-    let at-hue = at_Bracket.before in
-    let at-chroma = at-hue.before in
-    let at-lightness = at-chroma.before in
-    let at_n = at-lightness.before.before in
+    let at_bracket = c.before in
+    let at-hue = at_bracket.before in
+    let at_chroma = at-hue.before in
+    let at_lightness = at_chroma.before in
+    let at_n = at_lightness.before.before in
     rw (
       at_n.n.given.1,
-      at-lightness.lightness-number.ensures,
-      at-chroma.chroma-number.ensures,
+      at_lightness.lightness-number.ensures,
+      at_chroma.chroma-number.ensures,
       at-hue.hue-number.ensures,
-      at_Bracket.bracket-number.ensures,
+      at_bracket.bracket-number.ensures,
       c.verdict-number.ensures,
     )
 
-pub words-of-spec : {M : Type 1} → statement M
-words-of-spec =
+pub words_of_spec : {M : Type 1} → statement M
+words_of_spec =
     tie.close
     (tie.spec
     (λ c. search rules)

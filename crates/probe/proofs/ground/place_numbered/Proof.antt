@@ -1,4 +1,4 @@
--- `place_numbered` meets its contract: each arm is a clause of `numberedAnswer`. Assumes nothing.
+-- `place_numbered` meets its contract: each arm is a clause of `numbered_answer`. Assumes nothing.
 use borrow.Author.Rules.{rules}
 use Rattle.probe.proofs.Laws.{numbered-placed, numbered-unknown}
 use Rattle.probe.proofs.ground.place_numbered.Statement.{statement}
@@ -8,11 +8,11 @@ placed : tie.Need-returns
 placed c =
     let at_store = c.before in
     let at_place = at_store.before.before in
-    let at-white = at_place.before.before in
-    let at-numbered = at-white.before.before in
+    let at_white_lem = at_place.before.before in
+    let at-numbered = at_white_lem.before.before in
     let args = at-numbered.before.args in
     numbered-placed args.r args.out.now
-    at-numbered.numbered.ensures at-white.w.given.1 at_place.place-reading.ensures
+    at-numbered.numbered.ensures at_white_lem.w.given.1 at_place.place-reading.ensures
     at_store.store-place.ensures
 
 unknown : tie.Need-returns-2
@@ -21,8 +21,8 @@ unknown c =
     let args = at-numbered.before.args in
     numbered-unknown args.r args.out.now at-numbered.numbered.ensures c.enum_told.given.1
 
-pub place-numbered-spec : {M : Type 1} → statement M
-place-numbered-spec =
+pub place_numbered_spec : {M : Type 1} → statement M
+place_numbered_spec =
     tie.close
     (tie.spec
     (λ c κs. search rules)

@@ -6,5 +6,5 @@ use Rattle.probe.proofs.ground.probe_cube_root.Tie as tie
 returns : tie.Need-returns
 returns c = c.cube-root.ensures
 
-pub probe-cube-root-spec : {M : Type 1} → statement M
-probe-cube-root-spec = tie.close (tie.spec (λ c κs. search rules) returns)
+pub probe_cube_root_spec : {M : Type 1} → statement M
+probe_cube_root_spec = tie.close (tie.spec (λ c κs. search rules) returns)

@@ -6,5 +6,5 @@ use Rattle.probe.proofs.ground.probe_place_lab.Tie as tie
 returns : tie.Need-returns
 returns c = c.before.place-numbered.ensures
 
-pub probe-place-lab-spec : {M : Type 1} → statement M
-probe-place-lab-spec = tie.close (tie.spec (λ c κs. search rules) (λ c. search rules) returns)
+pub probe_place_lab_spec : {M : Type 1} → statement M
+probe_place_lab_spec = tie.close (tie.spec (λ c κs. search rules) (λ c. search rules) returns)

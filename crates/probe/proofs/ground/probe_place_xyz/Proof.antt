@@ -6,5 +6,5 @@ use Rattle.probe.proofs.ground.probe_place_xyz.Tie as tie
 returns : tie.Need-returns
 returns c = c.before.place-numbered.ensures
 
-pub probe-place-xyz-spec : {M : Type 1} → statement M
-probe-place-xyz-spec = tie.close (tie.spec (λ c κs. search rules) (λ c. search rules) returns)
+pub probe_place_xyz_spec : {M : Type 1} → statement M
+probe_place_xyz_spec = tie.close (tie.spec (λ c κs. search rules) (λ c. search rules) returns)

@@ -6,5 +6,5 @@ use Rattle.probe.proofs.ground.probe_square_root.Tie as tie
 returns : tie.Need-returns
 returns c = c.square-root.ensures
 
-pub probe-square-root-spec : {M : Type 1} → statement M
-probe-square-root-spec = tie.close (tie.spec (λ c κs. search rules) returns)
+pub probe_square_root_spec : {M : Type 1} → statement M
+probe_square_root_spec = tie.close (tie.spec (λ c κs. search rules) returns)

@@ -1,6 +1,6 @@
 -- `probe_units` meets its contract: it stores the units of the float. Assumes nothing.
 use borrow.Author.Rules.{rules}
-use Rattle.reading.specs.Reading.{floatUnits}
+use Rattle.reading.specs.Reading.{float_units}
 use Rattle.reading.specs.declared.quantity.Quantity.{Quantity}
 use Rattle.probe.proofs.Laws.{units-answered}
 use Rattle.probe.proofs.ground.probe_units.Statement.{statement}
@@ -12,11 +12,11 @@ answered c =
     let at-units = at_store.before.before in
     let at-quantity = at-units.before in
     let args = at-quantity.before.args in
-    units-answered (λ (q : Quantity). floatUnits q args.x) args.out.now
+    units-answered (λ (q : Quantity). float_units q args.x) args.out.now
     at-quantity.quantity-of.ensures at-units.float-units.ensures at_store.store-units.ensures
 
-pub probe-units-spec : {M : Type 1} → statement M
-probe-units-spec =
+pub probe_units_spec : {M : Type 1} → statement M
+probe_units_spec =
     tie.close
     (tie.spec
     (λ c κs. search rules)

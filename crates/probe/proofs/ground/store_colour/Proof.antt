@@ -13,14 +13,14 @@ stored c =
     let colour = at_a.before.before.args.c in
     let l-back : to_z w64 (of_z w64 colour.L.0) ≡ colour.L.0 = search rules in
     let a_back : to_z w64 (of_z w64 colour.a.0) ≡ colour.a.0 = search rules in
-    let b-back : to_z w64 (of_z w64 colour.b.0) ≡ colour.b.0 = search rules in
-    simp (eq-eqb _ 3 c.if1.true, l-back, a_back, b-back)
+    let b_back : to_z w64 (of_z w64 colour.b.0) ≡ colour.b.0 = search rules in
+    simp (eq-eqb _ 3 c.if1.true, l-back, a_back, b_back)
 
 left : tie.Need-returns-2
 left c = simp (ne_eqb _ 3 c.if1.false)
 
-pub store-colour-spec : {M : Type 1} → statement M
-store-colour-spec =
+pub store_colour_spec : {M : Type 1} → statement M
+store_colour_spec =
     tie.close
     (tie.spec
     (λ c. search rules)

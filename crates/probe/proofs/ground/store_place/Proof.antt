@@ -1,4 +1,4 @@
--- `store_place` meets its contract: each arm is a clause of `placedAnswer`. Assumes nothing.
+-- `store_place` meets its contract: each arm is a clause of `placed_answer`. Assumes nothing.
 use borrow.Author.Rules.{rules}
 use Rattle.probe.proofs.ground.store_place.Statement.{statement}
 use Rattle.probe.proofs.ground.store_place.Tie as tie
@@ -12,8 +12,8 @@ stored c =
 refused : tie.Need-returns-2
 refused c = rw c.before.p2.given.1
 
-pub store-place-spec : {M : Type 1} → statement M
-store-place-spec =
+pub store_place_spec : {M : Type 1} → statement M
+store_place_spec =
     tie.close
     (tie.spec
     (λ c. search rules)

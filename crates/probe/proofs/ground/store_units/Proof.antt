@@ -1,10 +1,10 @@
--- `store_units` meets its contract: each arm is a clause of `unitsAnswer`, and nothing is stored where `out` has no
+-- `store_units` meets its contract: each arm is a clause of `units_answer`, and nothing is stored where `out` has no
 -- place. Assumes nothing.
 use borrow.Author.Rules.{rules}
 use mathlib.Core.Path.{◌≡◌}
 use mir.Syntax.{w64}
 use mir.Val.{to_z, of_z}
-use Rattle.probe.proofs.Laws.{set-none}
+use Rattle.probe.proofs.Laws.{set_none}
 use Rattle.probe.proofs.ground.store_units.Statement.{statement}
 use Rattle.probe.proofs.ground.store_units.Tie as tie
 
@@ -16,10 +16,10 @@ stored c =
 
 no_place : tie.Need-returns-2
 no_place c =
-    let at-u = c.before.before in
-    let found = at-u.u.given in
-    let out = at-u.before.before.args.out.now in
-    rw (found.1, set-none out found.0.0 c.if1.false)
+    let at_u = c.before.before in
+    let found = at_u.u.given in
+    let out = at_u.before.before.args.out.now in
+    rw (found.1, set_none out found.0.0 c.if1.false)
 
 not_finite : tie.Need-returns-3
 not_finite c = rw c.enum_told.given.1
@@ -27,8 +27,8 @@ not_finite c = rw c.enum_told.given.1
 out_of_range : tie.Need-returns-4
 out_of_range c = rw c.enum-told2.given.1
 
-pub store-units-spec : {M : Type 1} → statement M
-store-units-spec =
+pub store_units_spec : {M : Type 1} → statement M
+store_units_spec =
     tie.close
     (tie.spec
     (λ c. search rules)

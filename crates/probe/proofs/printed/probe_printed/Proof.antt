@@ -6,5 +6,5 @@ use Rattle.probe.proofs.printed.probe_printed.Tie as tie
 returns : tie.Need-returns
 returns c = c.before.before.printed.ensures
 
-pub probe-printed-spec : {M : Type 1} → statement M
-probe-printed-spec = tie.close (tie.spec (λ c κs. search rules) (λ c. search rules) returns)
+pub probe_printed_spec : {M : Type 1} → statement M
+probe_printed_spec = tie.close (tie.spec (λ c κs. search rules) (λ c. search rules) returns)

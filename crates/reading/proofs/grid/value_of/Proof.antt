@@ -1,13 +1,13 @@
 -- The float of one's units is that of 2 ^ 20, so the quotient is `value_of`. Assumes nothing.
 use Rattle.std.proofs.Common.{pos, rules}
-use Rattle.reading.specs.Grid.Laws.{value-is}
+use Rattle.reading.specs.Grid.Laws.{value_is}
 use Rattle.reading.proofs.grid.value_of.Statement.{statement}
 use Rattle.reading.proofs.grid.value_of.Tie as tie
 
 returns : tie.Need-returns
 returns c =
-    value-is (pos c.before.before.args.units) c.before.nearest-u64-to-f64.ensures
+    value_is (pos c.before.before.args.units) c.before.nearest-u64-to-f64.ensures
     c.nearest-u64-to-f642.ensures
 
-pub value-of-spec : {M : Type 1} → statement M
-value-of-spec = tie.close (tie.spec (λ c κs. search rules) (λ c κs. search rules) returns)
+pub value_of_spec : {M : Type 1} → statement M
+value_of_spec = tie.close (tie.spec (λ c κs. search rules) (λ c κs. search rules) returns)

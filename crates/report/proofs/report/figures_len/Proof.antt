@@ -14,20 +14,20 @@ module _ (c : tie.After-struct-told) where
   abbrev d : Differences
   d = c.before.before.args.d
 
-  DL-back : to_z w64 (of_z w64 d.DL) ≡ d.DL
-  DL-back = search rules
+  DL_back : to_z w64 (of_z w64 d.DL) ≡ d.DL
+  DL_back = search rules
 
-  DC-back : to_z w64 (of_z w64 d.DC) ≡ d.DC
-  DC-back = search rules
+  DC_back : to_z w64 (of_z w64 d.DC) ≡ d.DC
+  DC_back = search rules
 
-  DH-back : to_z w64 (of_z w64 d.DH) ≡ d.DH
-  DH-back = search rules
+  DH_back : to_z w64 (of_z w64 d.DH) ≡ d.DH
+  DH_back = search rules
 
 withheld : tie.Need-returns
 withheld c =
     let dl = c.before in
     let read = dl.before in
-    let dl-length = rw (DL-back read) at dl.signed-len.ensures in
+    let dl-length = rw (DL_back read) at dl.signed_len_lem.ensures in
     rw (c.if1.true, figures-length-withheld (d read)) (omega arith, omega arith)
 
 shown : tie.Need-returns-2
@@ -36,13 +36,13 @@ shown c =
     let arm = dc.before.before in
     let dl = arm.before in
     let read = dl.before in
-    let dl-length = rw (DL-back read) at dl.signed-len.ensures in
-    let dc-length = rw (DC-back read) at dc.signed-len2.ensures in
-    let dh-length = rw (DH-back read) at c.signed-len3.ensures in
+    let dl-length = rw (DL_back read) at dl.signed_len_lem.ensures in
+    let dc-length = rw (DC_back read) at dc.signed-len2.ensures in
+    let dh-length = rw (DH_back read) at c.signed-len3.ensures in
     rw (arm.if1.false, figures-length (d read)) (omega arith, omega arith)
 
-pub figures-len-spec : {M : Type 1} → statement M
-figures-len-spec =
+pub figures_len_spec : {M : Type 1} → statement M
+figures_len_spec =
     tie.close
     (tie.spec
     (λ c κs. search rules)

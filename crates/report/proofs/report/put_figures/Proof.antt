@@ -7,11 +7,11 @@ use mir.Syntax.{w64}
 use mir.Val.{to_z, of_z}
 use Rattle.sheet.specs.declared.differences.Differences.{Differences}
 use Rattle.text.specs.Put.{joined}
-use Rattle.text.specs.Put.Laws.{RoomForAll, room_as, puts-as, room-for-all, room-first, room-second, room-third}
-use Rattle.text.specs.Put.Laws.{room-fourth, puts-four, puts-joined}
-use Rattle.lines.specs.Lines.{signedFigure}
-use Rattle.report.specs.Report.{figureLines}
-use Rattle.report.specs.Report.Laws.{figuresShown, figures-shown}
+use Rattle.text.specs.Put.Laws.{RoomForAll, room_as, puts_as, room_for_all, room_first, room-second, room-third}
+use Rattle.text.specs.Put.Laws.{room-fourth, puts_four, puts_joined}
+use Rattle.lines.specs.Lines.{signed_figure}
+use Rattle.report.specs.Report.{figure_lines}
+use Rattle.report.specs.Report.Laws.{figures_shown, figures-shown}
 use Rattle.report.proofs.report.put_figures.Statement.{statement}
 use Rattle.report.proofs.report.put_figures.Tie as tie
 
@@ -33,33 +33,33 @@ module _ (shown : tie.After-signed-figure3) where
   d = start.args.d
 
   -- a difference is handed on as it was read
-  DL-back : to_z w64 (of_z w64 d.DL) ≡ d.DL
-  DL-back = search rules
+  DL_back : to_z w64 (of_z w64 d.DL) ≡ d.DL
+  DL_back = search rules
 
-  DC-back : to_z w64 (of_z w64 d.DC) ≡ d.DC
-  DC-back = search rules
+  DC_back : to_z w64 (of_z w64 d.DC) ≡ d.DC
+  DC_back = search rules
 
-  DH-back : to_z w64 (of_z w64 d.DH) ≡ d.DH
-  DH-back = search rules
+  DH_back : to_z w64 (of_z w64 d.DH) ≡ d.DH
+  DH_back = search rules
 
   abbrev lines : List (List ℕ)
   lines =
-      figuresShown start.args.withheld DE-shown.figure-of.result DL-shown.signed-figure.result
+      figures_shown start.args.withheld DE-shown.figure-of.result DL-shown.signed-figure.result
       DC-shown.signed-figure2.result
       shown.signed-figure3.result
 
-  as-shown : figureLines start.args.withheld d ≡ lines
-  as-shown =
+  as_shown : figure_lines start.args.withheld d ≡ lines
+  as_shown =
       figures-shown start.args.withheld d DE-shown.figure-of.ensures
-      (DL-shown.signed-figure.ensures ∙ ap signedFigure DL-back)
-      (DC-shown.signed-figure2.ensures ∙ ap signedFigure DC-back)
-      (shown.signed-figure3.ensures ∙ ap signedFigure DH-back)
+      (DL-shown.signed-figure.ensures ∙ ap signed_figure DL_back)
+      (DC-shown.signed-figure2.ensures ∙ ap signed_figure DC_back)
+      (shown.signed-figure3.ensures ∙ ap signed_figure DH_back)
 
   row : RoomForAll start.args.dst.now start.args.at lines
-  row = room-for-all lines (room_as (ap joined as-shown) start.pre)
+  row = room_for_all lines (room_as (ap joined as_shown) start.pre)
 
 DE-requires : tie.Need-put-number-requires
-DE-requires c κs = room-first (row c.before.before)
+DE-requires c κs = room_first (row c.before.before)
 
 DL-requires : tie.Need-put-number-requires-2
 DL-requires c κs =
@@ -87,13 +87,13 @@ returns c =
     let DL = DC.before.before.before.before.before in
     let DE = DL.before.before.before.before.before in
     let shown = DE.before.before.before in
-    puts-as (sym (ap joined (as-shown shown)))
-    (puts-joined
-    (puts-four (row shown) DE.put-number.ensures DL.put-number2.ensures DC.put-chromatic.ensures
+    puts_as (sym (ap joined (as_shown shown)))
+    (puts_joined
+    (puts_four (row shown) DE.put-number.ensures DL.put-number2.ensures DC.put-chromatic.ensures
     DH.put-chromatic2.ensures))
 
-pub put-figures-spec : {M : Type 1} → statement M
-put-figures-spec =
+pub put_figures_spec : {M : Type 1} → statement M
+put_figures_spec =
     tie.close
     (tie.spec
     (λ c κs. search rules)

@@ -4,10 +4,10 @@ use mathlib.Core.List.{List}
 use Prim.Native.Nat.{ℕ}
 use borrow.Author.Rules.{rules}
 use Rattle.text.specs.Put.{joined}
-use Rattle.text.specs.Put.Laws.{RoomForAll, room_as, puts-as, room-for-all, room-first, room-second, room-third}
-use Rattle.text.specs.Put.Laws.{room-fourth, puts-four, puts-joined}
-use Rattle.report.specs.Report.{settingLines}
-use Rattle.report.specs.Report.Laws.{settingsShown, settings-shown}
+use Rattle.text.specs.Put.Laws.{RoomForAll, room_as, puts_as, room_for_all, room_first, room-second, room-third}
+use Rattle.text.specs.Put.Laws.{room-fourth, puts_four, puts_joined}
+use Rattle.report.specs.Report.{setting_lines}
+use Rattle.report.specs.Report.Laws.{settings_shown, settings-shown}
 use Rattle.report.proofs.report.put_settings.Statement.{statement}
 use Rattle.report.proofs.report.put_settings.Tie as tie
 
@@ -17,16 +17,16 @@ module _ (shown : tie.After-thousandths-of2) where
   start = shown.before.before.before
 
   abbrev lines : List (List ℕ)
-  lines = settingsShown start.args.s shown.before.thousandths-of.result shown.thousandths-of2.result
+  lines = settings_shown start.args.s shown.before.thousandths-of.result shown.thousandths-of2.result
 
-  as-shown : settingLines start.args.s ≡ lines
-  as-shown = settings-shown start.args.s shown.before.thousandths-of.ensures shown.thousandths-of2.ensures
+  as_shown : setting_lines start.args.s ≡ lines
+  as_shown = settings-shown start.args.s shown.before.thousandths-of.ensures shown.thousandths-of2.ensures
 
   row : RoomForAll start.args.dst.now start.args.at lines
-  row = room-for-all lines (room_as (ap joined as-shown) start.pre)
+  row = room_for_all lines (room_as (ap joined as_shown) start.pre)
 
 formula-requires : tie.Need-put-formula-requires
-formula-requires c κs = room-first (row c.before)
+formula-requires c κs = room_first (row c.before)
 
 white-requires : tie.Need-put-white-requires
 white-requires c κs =
@@ -54,13 +54,13 @@ returns c =
     let white = l.before.before.before.before.before in
     let formula = white.before.before.before.before in
     let shown = formula.before.before in
-    puts-as (sym (ap joined (as-shown shown)))
-    (puts-joined
-    (puts-four (row shown) formula.put-formula.ensures white.put-white.ensures l.put-number.ensures
+    puts_as (sym (ap joined (as_shown shown)))
+    (puts_joined
+    (puts_four (row shown) formula.put-formula.ensures white.put-white.ensures l.put-number.ensures
     last.put-number2.ensures))
 
-pub put-settings-spec : {M : Type 1} → statement M
-put-settings-spec =
+pub put_settings_spec : {M : Type 1} → statement M
+put_settings_spec =
     tie.close
     (tie.spec
     (λ c κs. search rules)

@@ -12,8 +12,8 @@ returns c =
     let whole = report-length start.args.j in
     omega arith
 
-pub report-len-spec : {M : Type 1} → statement M
-report-len-spec =
+pub report_len_spec : {M : Type 1} → statement M
+report_len_spec =
     tie.close
     (tie.spec
     (λ c κs. search rules)

@@ -11,8 +11,8 @@ returns c =
     let whole = settings-length white.before.before.args.s in
     (omega arith, omega arith)
 
-pub settings-len-spec : {M : Type 1} → statement M
-settings-len-spec =
+pub settings_len_spec : {M : Type 1} → statement M
+settings_len_spec =
     tie.close
     (tie.spec
     (λ c κs. search rules)

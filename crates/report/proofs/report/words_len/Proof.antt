@@ -11,8 +11,8 @@ returns c =
     let whole = words-length chroma.before.before.args.j in
     (omega arith, omega arith)
 
-pub words-len-spec : {M : Type 1} → statement M
-words-len-spec =
+pub words_len_spec : {M : Type 1} → statement M
+words_len_spec =
     tie.close
     (tie.spec
     (λ c κs. search rules)

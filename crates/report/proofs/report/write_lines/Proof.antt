@@ -1,46 +1,46 @@
 -- Three parts of four lines, one after the other. Assumes nothing.
 use borrow.Author.Rules.{rules}
-use Rattle.text.specs.Put.Laws.{room-for-all, room-first, room-second, room-third, puts-three}
-use Rattle.report.specs.Report.{reportParts, reportText}
+use Rattle.text.specs.Put.Laws.{room_for_all, room_first, room-second, room-third, puts_three}
+use Rattle.report.specs.Report.{report_parts, report_text}
 use Rattle.report.proofs.report.write_lines.Statement.{statement}
 use Rattle.report.proofs.report.write_lines.Tie as tie
 
 put-settings-requires : tie.Need-put-settings-requires
-unfolding reportText
+unfolding report_text
 put-settings-requires c κs =
     let read = c.before.before in
     let start = read.before.before in
-    room-first (room-for-all (reportParts start.args.j) start.requires)
+    room_first (room_for_all (report_parts start.args.j) start.requires)
 
 put-figures-requires : tie.Need-put-figures-requires
-unfolding reportText
+unfolding report_text
 put-figures-requires c κs =
     let settings = c.before.before.before in
     let read = settings.before.before.before in
     let start = read.before.before in
-    room-second (room-for-all (reportParts start.args.j) start.requires) settings.put-settings.ensures
+    room-second (room_for_all (report_parts start.args.j) start.requires) settings.put-settings.ensures
 
 put-words-requires : tie.Need-put-words-requires
-unfolding reportText
+unfolding report_text
 put-words-requires c κs =
     let figures = c.before.before.before in
     let settings = figures.before.before.before.before in
     let read = settings.before.before.before in
     let start = read.before.before in
-    let row = room-for-all (reportParts start.args.j) start.requires in
+    let row = room_for_all (report_parts start.args.j) start.requires in
     room-third row settings.put-settings.ensures figures.put-figures.ensures
 
 returns : tie.Need-returns
-unfolding reportText
+unfolding report_text
 returns c =
     let words = c.before.before in
     let figures = words.before.before.before.before in
     let settings = figures.before.before.before.before in
     let read = settings.before.before.before in
     let start = read.before.before in
-    let row = room-for-all (reportParts start.args.j) start.requires in
-    (puts-three row settings.put-settings.ensures figures.put-figures.ensures words.put-words.ensures).bytes
+    let row = room_for_all (report_parts start.args.j) start.requires in
+    (puts_three row settings.put-settings.ensures figures.put-figures.ensures words.put-words.ensures).bytes
 
-pub write-lines-spec : {M : Type 1} → statement M
-write-lines-spec =
+pub write_lines_spec : {M : Type 1} → statement M
+write_lines_spec =
     tie.close (tie.spec put-settings-requires put-figures-requires put-words-requires (λ c. search rules) returns)

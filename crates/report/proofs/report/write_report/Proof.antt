@@ -7,8 +7,8 @@ use native.Mathlib.Omega.{arith}
 use borrow.Author.Rules.{rules}
 use lib.ListN.{length, take, drop}
 use Rattle.text.specs.Put.Laws.{part-put}
-use Rattle.report.specs.Report.{reportText}
-use Rattle.report.specs.Write.Laws.{write-number-zero, write-room-put, write-number-ten, write-room-kept}
+use Rattle.report.specs.Report.{report_text}
+use Rattle.report.specs.Write.Laws.{write_number_zero, write_room_put, write_number_ten, write_room_kept}
 use Rattle.report.proofs.report.write_report.Statement.{statement}
 use Rattle.report.proofs.report.write_report.Tie as tie
 
@@ -16,8 +16,8 @@ past_the_end : tie.Need-returns
 past_the_end c =
     let a = c.before.before.args in
     record {
-      number_is = sym (write-number-ten _ _ a.j (omega arith));
-      room-is = sym (write-room-kept _ _ a.j (omega arith));
+      number_is = sym (write_number_ten _ _ a.j (omega arith));
+      room_is = sym (write_room_kept _ _ a.j (omega arith));
     }
 
 too_short : tie.Need-returns-2
@@ -25,8 +25,8 @@ too_short c =
     let at_length = c.before in
     let a = at_length.before.before.before.args in
     record {
-      number_is = sym (write-number-ten _ _ a.j (omega arith));
-      room-is = sym (write-room-kept _ _ a.j (omega arith));
+      number_is = sym (write_number_ten _ _ a.j (omega arith));
+      room_is = sym (write_room_kept _ _ a.j (omega arith));
     }
 
 written : tie.Need-returns-3
@@ -37,16 +37,16 @@ written c =
     let a = at_length.before.before.before.args in
     let room = a.room.now in
     record {
-      number_is = sym (write-number-zero room a.column a.j (omega arith));
-      room-is =
+      number_is = sym (write_number_zero room a.column a.j (omega arith));
+      room_is =
           ap (λ (l : List ℕ). take a.column room ++ (l ++ drop (length room - a.column) (drop a.column room)))
           at-lines.write-lines.ensures
-          ∙ part-put room a.column (reportText a.j) (omega arith)
-          ∙ sym (write-room-put room a.column a.j (omega arith));
+          ∙ part-put room a.column (report_text a.j) (omega arith)
+          ∙ sym (write_room_put room a.column a.j (omega arith));
     }
 
-pub write-report-spec : {M : Type 1} → statement M
-write-report-spec =
+pub write_report_spec : {M : Type 1} → statement M
+write_report_spec =
     tie.close
     (tie.spec
     past_the_end

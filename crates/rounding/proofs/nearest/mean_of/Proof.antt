@@ -6,7 +6,7 @@ use borrow.Author.Rules.{rules}
 use mir.Syntax.{w64}
 use mir.Val.{to_z, of_z}
 use mir.Facts.{to_z-of_z}
-use Rattle.rounding.specs.Mean.Laws.{mean-by}
+use Rattle.rounding.specs.Mean.Laws.{mean_by}
 use Rattle.rounding.specs.Signed.{∣◌∣}
 use Rattle.rounding.proofs.nearest.mean_of.Statement.{statement}
 use Rattle.rounding.proofs.nearest.mean_of.Tie as tie
@@ -22,8 +22,8 @@ returns c =
     let start = c.before.before in
     let back : to_z w64 (of_z w64 c.rounded.result) ≡ c.rounded.result = search rules in
     back
-    ∙ mean-by start.args.sum start.args.n (size c.before)
+    ∙ mean_by start.args.sum start.args.n (size c.before)
     (rw (to_z-of_z start.ranges.sum) at c.rounded.ensures)
 
-pub mean-of-spec : {M : Type 1} → statement M
-mean-of-spec = tie.close (tie.spec (λ c κs. search rules) rounded-requires returns)
+pub mean_of_spec : {M : Type 1} → statement M
+mean_of_spec = tie.close (tie.spec (λ c κs. search rules) rounded-requires returns)

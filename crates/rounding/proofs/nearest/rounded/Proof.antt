@@ -17,8 +17,8 @@ returns c =
     let back : to_z w64 (of_z w64 c.with-sign.result) ≡ c.with-sign.result = search rules in
     back ∙ c.with-sign.ensures ∙ ap (signed a.below) (sym (nearest-add a.num a.den))
 
-pub rounded-spec : {M : Type 1} → statement M
-rounded-spec =
+pub rounded_spec : {M : Type 1} → statement M
+rounded_spec =
     tie.close
     (tie.spec (λ c. omega (arith, c.requires.1)) (λ c. search rules)
     (λ c κs. lt_of_le_of_lt (div-le_self _ _) (omega (arith, c.requires.1)))

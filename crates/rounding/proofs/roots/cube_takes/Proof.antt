@@ -17,8 +17,8 @@ product_le h = mul-le-mul {n₂ = 2 ^ 24} {m₂ = 2 ^ 22} (omega arith) (omega a
 returns : tie.Need-returns
 returns c = rw (cube (c.args.n + 1), cube c.args.n) (omega arith)
 
-pub cube-takes-spec : {M : Type 1} → statement M
-cube-takes-spec =
+pub cube_takes_spec : {M : Type 1} → statement M
+cube_takes_spec =
     tie.close
     (tie.spec
     (λ c. search rules)

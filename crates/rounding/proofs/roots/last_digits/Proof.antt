@@ -17,8 +17,8 @@ one_shift x n less = mod_times (x * 2) (2 ^ (63 - n)) (2 ^ 64) ∙ rw together
     together : x * 2 * 2 ^ (63 - n) ≡ x * 2 ^ (64 - n)
     together = rw (more, pow-suc 2 (63 - n)) (omega arith)
 
-pub last-digits-spec : {M : Type 1} → statement M
-last-digits-spec =
+pub last_digits_spec : {M : Type 1} → statement M
+last_digits_spec =
     tie.close
     (tie.spec
     (λ c. search rules)

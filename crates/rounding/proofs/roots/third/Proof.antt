@@ -8,5 +8,5 @@ use Rattle.rounding.proofs.roots.third.Tie as tie
 returns : tie.Need-returns
 returns c = omega arith
 
-pub third-spec : {M : Type 1} → statement M
-third-spec = tie.close (tie.spec (λ c. search rules) returns)
+pub third_spec : {M : Type 1} → statement M
+third_spec = tie.close (tie.spec (λ c. search rules) returns)

@@ -3,7 +3,7 @@ use mathlib.Core.Path.{ap, ◌∙◌}
 use native.Mathlib.Omega.{arith}
 use borrow.Author.Rules.{rules}
 use mir.Facts.{to_z-of_z}
-use Rattle.rounding.specs.Root.{rootOf}
+use Rattle.rounding.specs.Root.{root_of}
 use Rattle.sheet.specs.Sheet.{chroma}
 use Rattle.semi_axes.proofs.chroma.chroma_at.Statement.{statement}
 use Rattle.semi_axes.proofs.chroma.chroma_at.Tie as tie
@@ -12,10 +12,10 @@ returns : tie.Need-returns
 unfolding chroma
 returns c =
     let f = c.before.before.ranges in
-    c.square-root.ensures ∙ ap (rootOf 2) (simp (to_z-of_z, f.a, f.b) at c.before.squares.ensures)
+    c.square-root.ensures ∙ ap (root_of 2) (simp (to_z-of_z, f.a, f.b) at c.before.squares.ensures)
 
-pub chroma-at-spec : {M : Type 1} → statement M
-chroma-at-spec =
+pub chroma_at_spec : {M : Type 1} → statement M
+chroma_at_spec =
     tie.close
     (tie.spec
     (λ c κs. simp (to_z-of_z, c.ranges.a, c.ranges.b) (record { first = omega arith; second = omega arith }))

@@ -1,10 +1,10 @@
--- `chroma::chroma_of` meets its contract: a colour of the grid at 20 places is the colour itself (`atPlaces-20`).
+-- `chroma::chroma_of` meets its contract: a colour of the grid at 20 places is the colour itself (`at_places_20`).
 -- Assumes nothing.
 use mathlib.Core.Path.{sym, ap, ap₂, ◌∙◌}
 use borrow.Author.Rules.{rules}
-use Rattle.colour.specs.Conversion.Places.{atPlaces-20}
-use Rattle.sheet.specs.Sheet.{chroma, chromaOf}
-use Rattle.sheet.proofs.Fits.{a_back, b-back}
+use Rattle.colour.specs.Conversion.Places.{at_places_20}
+use Rattle.sheet.specs.Sheet.{chroma, chroma_of}
+use Rattle.sheet.proofs.Fits.{a_back, b_back}
 use Rattle.semi_axes.proofs.chroma.chroma_of.Statement.{statement}
 use Rattle.semi_axes.proofs.chroma.chroma_of.Tie as tie
 
@@ -12,8 +12,8 @@ returns : tie.Need-returns
 returns c =
     let told = c.before.before in
     let s = told.before in
-    c.chroma-at.ensures ∙ ap₂ chroma (a_back s.requires) (b-back s.requires)
-    ∙ ap chromaOf (sym (atPlaces-20 s.args.c))
+    c.chroma-at.ensures ∙ ap₂ chroma (a_back s.requires) (b_back s.requires)
+    ∙ ap chroma_of (sym (at_places_20 s.args.c))
 
-pub chroma-of-spec : {M : Type 1} → statement M
-chroma-of-spec = tie.close (tie.spec (λ c κs. search rules) returns)
+pub chroma_of_spec : {M : Type 1} → statement M
+chroma_of_spec = tie.close (tie.spec (λ c κs. search rules) returns)

@@ -6,7 +6,7 @@ use mir.Syntax.{w64}
 use mir.Val.{to_z, of_z}
 use mir.Facts.{to_z-of_z}
 use Rattle.rounding.specs.Signed.{∣◌∣, ◌·◌}
-use Rattle.sheet.specs.Sheet.{hueM}
+use Rattle.sheet.specs.Sheet.{hue_m}
 use Rattle.semi_axes.proofs.hue.hue_m.Statement.{statement}
 use Rattle.semi_axes.proofs.hue.hue_m.Tie as tie
 
@@ -29,15 +29,15 @@ less c =
     rw back (simp (to_z-of_z, s.ranges.a, s.ranges.b) at c.less-products.ensures)
 
 second : tie.Need-returns
-unfolding hueM
+unfolding hue_m
 second c = rw c.before.before.if1.true (c.magnitude.ensures ∙ ap (λ (z : ℤ). ∣ z ∣) (sum c.before))
 
 first : tie.Need-returns-2
-unfolding hueM
+unfolding hue_m
 first c = rw c.before.before.if1.false (c.magnitude2.ensures ∙ ap (λ (z : ℤ). ∣ z ∣) (less c.before))
 
-pub hue-m-spec : {M : Type 1} → statement M
-hue-m-spec =
+pub hue_m_spec : {M : Type 1} → statement M
+hue_m_spec =
     tie.close
     (tie.spec
     (λ c κs. search rules)

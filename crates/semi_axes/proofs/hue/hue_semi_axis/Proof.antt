@@ -5,17 +5,17 @@ use Prim.Native.Nat.{ℕ, ◌<◌}
 use native.Mathlib.Omega.{arith}
 use borrow.Author.Rules.{rules}
 use mir.Facts.{to_z-of_z}
-use Rattle.sheet.specs.Sheet.{secondForm, hueQ, hueW, hueF, hueM, hueT, hueP, hueG, semiAxisH}
-use Rattle.sheet.specs.Sheet.Laws.{neutral-of-chroma, chromatic-of-chroma, hueF-le, hueT-of-le, hueSemiAxis-neutral}
-use Rattle.sheet.specs.Sheet.Laws.{hueSemiAxis-chromatic}
+use Rattle.sheet.specs.Sheet.{second_form, hue_q, hue_w, hue_f, hue_m, hue_t, hue_p, hue_g, semi_axis_h}
+use Rattle.sheet.specs.Sheet.Laws.{neutral_of_chroma, chromatic_of_chroma, hue_f-le, hue_t_of_le, hue_semi_axis-neutral}
+use Rattle.sheet.specs.Sheet.Laws.{hue_semi_axis-chromatic}
 use Rattle.semi_axes.proofs.hue.hue_semi_axis.Statement.{statement}
 use Rattle.semi_axes.proofs.hue.hue_semi_axis.Tie as tie
 
 neutral : tie.Need-returns
 neutral c =
     let s = c.before in
-    sym (hueSemiAxis-neutral 20 s.args.a s.args.b s.args.c s.args.sc
-    (neutral-of-chroma _ _ (sym s.requires.is ∙ c.if1.true)))
+    sym (hue_semi_axis-neutral 20 s.args.a s.args.b s.args.c s.args.sc
+    (neutral_of_chroma _ _ (sym s.requires.is ∙ c.if1.true)))
 
 chromatic : tie.Need-hue-t-of-requires
 chromatic c κs =
@@ -33,22 +33,22 @@ module _ (c : tie.After-hue-t-of) where
   C>0 : 0 < start.args.c
   C>0 = omega arith
 
-  f-is :
-      let s = start.args in at_f.hue-f-of.result ≡ hueF 20 (hueQ 20 s.a s.b) (hueW 20 (hueQ 20 s.a s.b))
-  f-is = simp (to_z-of_z, start.fits.a, start.fits.b) at at_f.hue-f-of.ensures
+  f_is :
+      let s = start.args in at_f.hue-f-of.result ≡ hue_f 20 (hue_q 20 s.a s.b) (hue_w 20 (hue_q 20 s.a s.b))
+  f_is = simp (to_z-of_z, start.fits.a, start.fits.b) at at_f.hue-f-of.ensures
 
-  t-is :
+  t_is :
       let s = start.args in
-      c.hue-t-of.result ≡ hueT 20 (secondForm s.a s.b) (hueM (secondForm s.a s.b) s.a s.b) s.c
-  t-is = simp (to_z-of_z, start.fits.a, start.fits.b) at c.hue-t-of.ensures
+      c.hue-t-of.result ≡ hue_t 20 (second_form s.a s.b) (hue_m (second_form s.a s.b) s.a s.b) s.c
+  t_is = simp (to_z-of_z, start.fits.a, start.fits.b) at c.hue-t-of.ensures
 
 components-fit : tie.Need-semi-axis-h-requires
 components-fit c κs =
     let p = (start c).requires in
     record {
       SC = p.small;
-      F = rw (f-is c) (hueF-le 20 _);
-      T = rw (t-is c) (hueT-of-le 20 _ _ p.is (C>0 c) _);
+      F = rw (f_is c) (hue_f-le 20 _);
+      T = rw (t_is c) (hue_t_of_le 20 _ _ p.is (C>0 c) _);
     }
 
 returns : tie.Need-returns-2
@@ -56,9 +56,9 @@ returns c =
     let t = c.before in
     let s = (start t).args in
     c.semi-axis-h.ensures
-    ∙ ap₂ (λ (f t : ℕ). semiAxisH 20 s.sc (hueG 20 (hueP 20 f t) f)) (f-is t) (t-is t)
-    ∙ sym (hueSemiAxis-chromatic 20 s.a s.b s.c s.sc
-    (chromatic-of-chroma _ _ (rw (start t).requires.is at (C>0 t))))
+    ∙ ap₂ (λ (f t : ℕ). semi_axis_h 20 s.sc (hue_g 20 (hue_p 20 f t) f)) (f_is t) (t_is t)
+    ∙ sym (hue_semi_axis-chromatic 20 s.a s.b s.c s.sc
+    (chromatic_of_chroma _ _ (rw (start t).requires.is at (C>0 t))))
 
-pub hue-semi-axis-spec : {M : Type 1} → statement M
-hue-semi-axis-spec = tie.close (tie.spec neutral (λ c κs. search rules) chromatic components-fit returns)
+pub hue_semi_axis_spec : {M : Type 1} → statement M
+hue_semi_axis_spec = tie.close (tie.spec neutral (λ c κs. search rules) chromatic components-fit returns)

@@ -1,19 +1,19 @@
 -- `hue::hue_t` meets its contract: each way out is one form of line 6. Assumes nothing.
 use borrow.Author.Rules.{rules}
-use Rattle.sheet.specs.Sheet.{hueT}
+use Rattle.sheet.specs.Sheet.{hue_t}
 use Rattle.semi_axes.proofs.hue.hue_t.Statement.{statement}
 use Rattle.semi_axes.proofs.hue.hue_t.Tie as tie
 
 second : tie.Need-returns
-unfolding hueT
+unfolding hue_t
 second c = rw c.before.if1.true c.fraction.ensures
 
 first : tie.Need-returns-2
-unfolding hueT
+unfolding hue_t
 first c = rw c.before.if1.false c.fraction2.ensures
 
-pub hue-t-spec : {M : Type 1} → statement M
-hue-t-spec =
+pub hue_t_spec : {M : Type 1} → statement M
+hue_t_spec =
     tie.close
     (tie.spec
     (λ c. search rules)

@@ -2,16 +2,16 @@
 use borrow.Author.Rules.{rules}
 use native.Mathlib.Nat.{mul-le-mul}
 use native.Mathlib.Omega.{arith}
-use Rattle.sheet.specs.Sheet.{hueW}
+use Rattle.sheet.specs.Sheet.{hue_w}
 use Rattle.semi_axes.proofs.hue.hue_w.Statement.{statement}
 use Rattle.semi_axes.proofs.hue.hue_w.Tie as tie
 
 returns : tie.Need-returns
-unfolding hueW
+unfolding hue_w
 returns c = c.square-root.ensures
 
-pub hue-w-spec : {M : Type 1} → statement M
-hue-w-spec =
+pub hue_w_spec : {M : Type 1} → statement M
+hue_w_spec =
     tie.close
     (tie.spec
     (λ c. omega (arith, mul-le-mul c.requires c.requires))

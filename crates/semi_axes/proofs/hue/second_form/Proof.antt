@@ -6,15 +6,15 @@ use mir.Syntax.{w64}
 use mir.Val.{to_z, of_z}
 use mir.Facts.{to_z-of_z}
 use Rattle.rounding.specs.Signed.{◌·◌}
-use Rattle.sheet.specs.Sheet.{secondForm}
+use Rattle.sheet.specs.Sheet.{second_form}
 use Rattle.semi_axes.proofs.hue.second_form.Statement.{statement}
 use Rattle.semi_axes.proofs.hue.second_form.Tie as tie
 
 -- ---- the two sums, as the code has them
 module _ (c : tie.After-plus-products) where
-  first-is :
+  first_is :
       let s = c.before.args in to_z w64 (of_z w64 c.plus-products.result) ≡ 27563736 · s.a +ℤ 96126170 · s.b
-  first-is =
+  first_is =
       let f = c.before.ranges in
       let back : to_z w64 (of_z w64 c.plus-products.result) ≡ c.plus-products.result = search rules in
       rw back (simp (to_z-of_z, f.a, f.b) at c.plus-products.ensures)
@@ -32,12 +32,12 @@ module _ (c : tie.After-plus-products2) where
       rw back (simp (to_z-of_z, f.a, f.b) at c.plus-products2.ensures)
 
 returns : tie.Need-returns
-unfolding secondForm
-returns c = rw (c.if1.true, rw (first-is c.before) at c.if1.true)
+unfolding second_form
+returns c = rw (c.if1.true, rw (first_is c.before) at c.if1.true)
 
 returns-2 : tie.Need-returns-2
-unfolding secondForm
-returns-2 c = rw (second_is c, rw (first-is (at_first c)) at c.before.if1.false)
+unfolding second_form
+returns-2 c = rw (second_is c, rw (first_is (at_first c)) at c.before.if1.false)
 
-pub second-form-spec : {M : Type 1} → statement M
-second-form-spec = tie.close (tie.spec (λ c κs. search rules) (λ c κs. search rules) returns returns-2)
+pub second_form_spec : {M : Type 1} → statement M
+second_form_spec = tie.close (tie.spec (λ c κs. search rules) (λ c κs. search rules) returns returns-2)

@@ -4,7 +4,7 @@ use Prim.Native.Nat.{ℕ, ◌+◌, ◌-◌, ◌*◌, ◌/◌, ◌^◌, ◌≤◌
 use native.Mathlib.Nat.{mul-le-mul}
 use native.Mathlib.Omega.{arith}
 use borrow.Author.Rules.{rules}
-use Rattle.sheet.specs.Sheet.{hueP, hueG, semiAxisH}
+use Rattle.sheet.specs.Sheet.{hue_p, hue_g, semi_axis_h}
 use Rattle.semi_axes.proofs.hue.semi_axis_h.Statement.{statement}
 use Rattle.semi_axes.proofs.hue.semi_axis_h.Tie as tie
 
@@ -18,19 +18,19 @@ product_lt : {sc g : ℕ} → sc ≤ 2 ^ 23 → g ≤ 2 ^ 21 → sc * g ≤ 2 ^ 
 product_lt h g = mul-le-mul h g
 
 module _ (c : tie.Start) where
-  ft-le : c.args.f * c.args.t ≤ 2 ^ 40
-  ft-le = product_le c.requires.F c.requires.T
+  ft_le : c.args.f * c.args.t ≤ 2 ^ 40
+  ft_le = product_le c.requires.F c.requires.T
 
 returns : tie.Need-returns
-unfolding hueP hueG semiAxisH
+unfolding hue_p hue_g semi_axis_h
 returns c = refl
 
-pub semi-axis-h-spec : {M : Type 1} → statement M
-semi-axis-h-spec =
+pub semi_axis_h_spec : {M : Type 1} → statement M
+semi_axis_h_spec =
     tie.close
     (tie.spec
-    (λ c. omega (arith, ft-le c))
-    (λ c. omega (arith, ft-le c))
+    (λ c. omega (arith, ft_le c))
+    (λ c. omega (arith, ft_le c))
     (λ c. search rules)
-    (λ c. omega (arith, product_lt c.requires.SC (sum-le c.args.f (ft-le c))))
+    (λ c. omega (arith, product_lt c.requires.SC (sum-le c.args.f (ft_le c))))
     returns)

@@ -4,23 +4,23 @@ use Prim.Native.Nat.{◌^◌, ◌<◌}
 use native.Mathlib.Omega.{arith}
 use borrow.Author.Rules.{rules}
 use mir.Facts.{to_z-of_z}
-use Rattle.sheet.specs.Sheet.{chroma, semiAxisC94, semiAxisH94, semiAxesCIE94}
+use Rattle.sheet.specs.Sheet.{chroma, semi_axis_c94, semi_axis_h94, semi_axes_cie94}
 use Rattle.sheet.specs.Sheet.Laws.{chroma-lt}
 use Rattle.semi_axes.proofs.semi_axes.semi_axes_cie94.Statement.{statement}
 use Rattle.semi_axes.proofs.semi_axes.semi_axes_cie94.Tie as tie
 
-chroma-is : (c : tie.After-chroma-at) → c.chroma-at.result ≡ chroma c.before.args.a c.before.args.b
-chroma-is c = simp (to_z-of_z, c.before.ranges.a, c.before.ranges.b) at c.chroma-at.ensures
+chroma_is : (c : tie.After-chroma-at) → c.chroma-at.result ≡ chroma c.before.args.a c.before.args.b
+chroma_is c = simp (to_z-of_z, c.before.ranges.a, c.before.ranges.b) at c.chroma-at.ensures
 
 small : (c : tie.After-chroma-at) → c.chroma-at.result < 2 ^ 29
-small c = rw (chroma-is c) (chroma-lt _ _ c.before.requires)
+small c = rw (chroma_is c) (chroma-lt _ _ c.before.requires)
 
 returns : tie.Need-returns
-unfolding semiAxesCIE94 semiAxisC94 semiAxisH94
-returns c = rw (chroma-is c)
+unfolding semi_axes_cie94 semi_axis_c94 semi_axis_h94
+returns c = rw (chroma_is c)
 
-pub semi-axes-cie94-spec : {M : Type 1} → statement M
-semi-axes-cie94-spec =
+pub semi_axes_cie94_spec : {M : Type 1} → statement M
+semi_axes_cie94_spec =
     tie.close
     (tie.spec
     (λ c κs. search rules)

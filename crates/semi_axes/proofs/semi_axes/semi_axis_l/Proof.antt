@@ -1,18 +1,18 @@
 -- `semi_axes::semi_axis_l` meets its contract: each way out is one branch of line 3. Assumes nothing.
 use borrow.Author.Rules.{rules}
 use mathlib.Core.Path.{sym}
-use Rattle.sheet.specs.Sheet.Laws.{semiAxisL-dark, semiAxisL-light}
+use Rattle.sheet.specs.Sheet.Laws.{semi_axis_l-dark, semi_axis_l-light}
 use Rattle.semi_axes.proofs.semi_axes.semi_axis_l.Statement.{statement}
 use Rattle.semi_axes.proofs.semi_axes.semi_axis_l.Tie as tie
 
 dark : tie.Need-returns
-dark c = sym (semiAxisL-dark 20 c.if1.true)
+dark c = sym (semi_axis_l-dark 20 c.if1.true)
 
 light : tie.Need-returns-2
-light c = sym (semiAxisL-light 20 c.if1.false)
+light c = sym (semi_axis_l-light 20 c.if1.false)
 
-pub semi-axis-l-spec : {M : Type 1} → statement M
-semi-axis-l-spec =
+pub semi_axis_l_spec : {M : Type 1} → statement M
+semi_axis_l_spec =
     tie.close
     (tie.spec
     (λ c. search rules)

@@ -4,14 +4,14 @@ use Rattle.sheet.proofs.Fits.{mul-fits, add-fits}
 use Rattle.sheet.proofs.products.plus_products.Statement.{statement}
 use Rattle.sheet.proofs.products.plus_products.Tie as tie
 
-mul-result : tie.Need-overflow-mul-result
-mul-result c = simp (to_z-of_z, c.ranges.p, c.ranges.q) (mul-fits c.requires.first)
+mul_result : tie.Need-overflow-mul-result
+mul_result c = simp (to_z-of_z, c.ranges.p, c.ranges.q) (mul-fits c.requires.first)
 
-mul-result-2 : tie.Need-overflow-mul-result-2
-mul-result-2 c = simp (to_z-of_z, c.ranges.r, c.ranges.s) (mul-fits c.requires.second)
+mul_result_2 : tie.Need-overflow-mul-result-2
+mul_result_2 c = simp (to_z-of_z, c.ranges.r, c.ranges.s) (mul-fits c.requires.second)
 
-add-result : tie.Need-overflow-add-result
-add-result c =
+add_result : tie.Need-overflow-add-result
+add_result c =
     simp (to_z-of_z, c.ranges.p, c.ranges.q, c.ranges.r, c.ranges.s, mul-fits c.requires.first, mul-fits c.requires.second)
     (add-fits c.requires)
 
@@ -28,5 +28,5 @@ returns c =
       add-fits c.requires,
     )
 
-pub plus-products-spec : {M : Type 1} → statement M
-plus-products-spec = tie.close (tie.spec mul-result mul-result-2 add-result returns)
+pub plus_products_spec : {M : Type 1} → statement M
+plus_products_spec = tie.close (tie.spec mul_result mul_result_2 add_result returns)

@@ -19,19 +19,19 @@ module _ (c : tie.After-magnitude2) where
   second : c.magnitude2.result ≡ ∣ c.before.before.args.y ∣
   second = rw (to_z-of_z c.before.before.ranges.y) at c.magnitude2.ensures
 
-  first-le : c.before.magnitude.result * c.before.magnitude.result ≤ 2 ^ 62
-  first-le = square_le (rw first c.before.before.requires.first)
+  first_le : c.before.magnitude.result * c.before.magnitude.result ≤ 2 ^ 62
+  first_le = square_le (rw first c.before.before.requires.first)
 
   second-le : c.magnitude2.result * c.magnitude2.result ≤ 2 ^ 62
   second-le = square_le (rw second c.before.before.requires.second)
 
-pub squares-spec : {M : Type 1} → statement M
-squares-spec =
+pub squares_spec : {M : Type 1} → statement M
+squares_spec =
     tie.close
     (tie.spec
     (λ c κs. search rules)
     (λ c κs. search rules)
-    (λ c. omega (arith, first-le c))
+    (λ c. omega (arith, first_le c))
     (λ c. omega (arith, second-le c))
-    (λ c. omega (arith, first-le c, second-le c))
+    (λ c. omega (arith, first_le c, second-le c))
     (λ c. rw (first c, second c)))

@@ -1,10 +1,10 @@
 -- `settings::is_within` meets its contract: the test at each end is the definition's. Assumes nothing.
 use mathlib.Core.Path.{sym}
-use Rattle.sheet.specs.Settings.Laws.{within-below, within-not-below}
+use Rattle.sheet.specs.Settings.Laws.{within_below, within_not_below}
 use Rattle.sheet.proofs.settings.is_within.Statement.{statement}
 use Rattle.sheet.proofs.settings.is_within.Tie as tie
 
-pub is-within-spec : {M : Type 1} → statement M
-is-within-spec =
+pub is_within_spec : {M : Type 1} → statement M
+is_within_spec =
     tie.close
-    (tie.spec (λ c. sym (within-below _ _ _ c.if1.true)) (λ c. sym (within-not-below _ _ _ c.if1.false)))
+    (tie.spec (λ c. sym (within_below _ _ _ c.if1.true)) (λ c. sym (within_not_below _ _ _ c.if1.false)))

@@ -6,21 +6,21 @@ use mir.Syntax.{w64}
 use mir.Val.{to_z, of_z}
 use mir.Facts.{to_z-of_z}
 use Rattle.rounding.specs.Signed.{∣◌∣}
-use Rattle.rounding.specs.Signed.Laws.{zero-of-abs}
-use Rattle.sheet.specs.Sheet.{sameHue}
+use Rattle.rounding.specs.Signed.Laws.{zero_of_abs}
+use Rattle.sheet.specs.Sheet.{same_hue}
 use Rattle.sheet.proofs.shift.same_hue.Statement.{statement}
 use Rattle.sheet.proofs.shift.same_hue.Tie as tie
 
 cross-zero : tie.Need-returns
-unfolding sameHue
+unfolding same_hue
 cross-zero c =
     let zero : c.before.args.x ≡ pos 0 = sym (to_z-of_z c.before.ranges.x) ∙ ap (to_z w64) c.if1.true in
     rw (to_z-of_z c.before.ranges.y, zero)
 
-cross-else : tie.Need-returns-2
-unfolding sameHue
-cross-else c =
-    rw (ne_eqb ∣ c.before.args.x ∣ 0 (λ e. c.if1.false (ap (of_z w64) (zero-of-abs c.before.args.x e))))
+cross_else : tie.Need-returns-2
+unfolding same_hue
+cross_else c =
+    rw (ne_eqb ∣ c.before.args.x ∣ 0 (λ e. c.if1.false (ap (of_z w64) (zero_of_abs c.before.args.x e))))
 
-pub same-hue-spec : {M : Type 1} → statement M
-same-hue-spec = tie.close (tie.spec cross-zero cross-else)
+pub same_hue_spec : {M : Type 1} → statement M
+same_hue_spec = tie.close (tie.spec cross-zero cross_else)

@@ -11,5 +11,5 @@ below c = omega (arith, abs-change c.before.args.x c.before.args.y)
 above : tie.Need-returns-2
 above c = omega (arith, abs-change c.before.args.x c.before.args.y)
 
-pub apart-spec : {M : Type 1} → statement M
-apart-spec = tie.close (tie.spec (λ c. search rules) below above)
+pub apart_spec : {M : Type 1} → statement M
+apart_spec = tie.close (tie.spec (λ c. search rules) below above)

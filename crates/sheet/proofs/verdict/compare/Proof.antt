@@ -18,5 +18,5 @@ fail c =
     let far = c.before in
     sym (compared-fail 20 _ _ (rw far.before.apart.ensures at far.if1.false) c.if2.false)
 
-pub compare-spec : {M : Type 1} → statement M
-compare-spec = tie.close (tie.spec (λ c κs. search rules) near pass fail)
+pub compare_spec : {M : Type 1} → statement M
+compare_spec = tie.close (tie.spec (λ c κs. search rules) near pass fail)

@@ -3,13 +3,13 @@ use mathlib.Core.Path.{◌≡◌, sym, ap, ◌∙◌}
 use borrow.Author.Rules.{rules}
 use Rattle.colour.specs.declared.placed.Placed.{Placed}
 use Rattle.standard.specs.Refusals.{refusal}
-use Rattle.standard.specs.Acceptance.{rangeFaults, acceptance}
-use Rattle.standard.specs.Acceptance.Laws.{settings-refused, reference-refused, is-accepted}
+use Rattle.standard.specs.Acceptance.{range_faults, acceptance}
+use Rattle.standard.specs.Acceptance.Laws.{settings-refused, reference-refused, is_accepted}
 use Rattle.standard.proofs.accept.accept.Statement.{statement}
 use Rattle.standard.proofs.accept.accept.Tie as tie
 
-not-in-range : tie.Need-returns
-not-in-range c =
+not_in_range : tie.Need-returns
+not_in_range c =
     let at-settings = c.before in settings-refused _ _ at-settings.range-refusal.ensures c.if1.true
 
 -- ---- where the settings have no refusal
@@ -17,8 +17,8 @@ module _ (c : tie.Else1) where
   abbrev start : tie.Start
   start = c.before.before
 
-  in-range : refusal (rangeFaults start.args.s.l start.args.s.c start.args.s.tolerance) ≡ 0
-  in-range = sym c.before.range-refusal.ensures ∙ c.if1.false
+  in_range : refusal (range_faults start.args.s.l start.args.s.c start.args.s.tolerance) ≡ 0
+  in_range = sym c.before.range-refusal.ensures ∙ c.if1.false
 
   -- the reference's place is the one that was matched
   by_place :
@@ -30,20 +30,20 @@ placed : tie.Need-returns-2
 placed c =
     let at_place = c.before in
     let none = at_place.before.before in
-    is-accepted _ (in-range none) _ ∙ by_place none at_place.reference.given.1
+    is_accepted _ (in_range none) _ ∙ by_place none at_place.reference.given.1
 
 refused : tie.Need-returns-3
 refused c =
     let at_place = c.before in
     let none = at_place.before.before in
-    reference-refused _ (in-range none) _ ∙ by_place none at_place.reference2.given.1
+    reference-refused _ (in_range none) _ ∙ by_place none at_place.reference2.given.1
 
-pub accept-spec : {M : Type 1} → statement M
-accept-spec =
+pub accept_spec : {M : Type 1} → statement M
+accept_spec =
     tie.close
     (tie.spec
     (λ c κs. search rules)
-    not-in-range
+    not_in_range
     (λ c. search rules)
     (λ c. search rules)
     placed

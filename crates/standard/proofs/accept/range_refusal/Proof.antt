@@ -3,49 +3,49 @@ use mathlib.Core.Path.{◌≡◌, sym, ◌∙◌}
 use mathlib.Core.Bool.{true}
 use borrow.Author.Rules.{rules}
 use borrow.Author.Tests.{not-true, not-false}
-use Rattle.sheet.specs.Settings.{isFactor}
-use Rattle.standard.specs.Acceptance.Laws.{l-out, c_out, tolerance-out, all_in}
+use Rattle.sheet.specs.Settings.{is_factor}
+use Rattle.standard.specs.Acceptance.Laws.{l_out, c_out, tolerance_out, all_in}
 use Rattle.standard.proofs.accept.range_refusal.Statement.{statement}
 use Rattle.standard.proofs.accept.range_refusal.Tie as tie
 
 -- ---- what is known where each test passed
 
-l-in : (c : tie.Else1) → isFactor c.before.before.args.l ≡ true
-l-in c = sym c.before.is-factor.ensures ∙ not-false _ c.if1.false
+l_in : (c : tie.Else1) → is_factor c.before.before.args.l ≡ true
+l_in c = sym c.before.is-factor.ensures ∙ not-false _ c.if1.false
 
-c-in : (c : tie.Else2) → let in-l = c.before.before in isFactor in-l.before.before.args.c ≡ true
-c-in c = sym c.before.is-factor2.ensures ∙ not-false _ c.if2.false
+c_in : (c : tie.Else2) → let in-l = c.before.before in is_factor in-l.before.before.args.c ≡ true
+c_in c = sym c.before.is-factor2.ensures ∙ not-false _ c.if2.false
 
-out-l : tie.Need-returns
-out-l c = sym (l-out _ _ _ (sym c.before.is-factor.ensures ∙ not-true _ c.if1.true))
+out_l : tie.Need-returns
+out_l c = sym (l_out _ _ _ (sym c.before.is-factor.ensures ∙ not-true _ c.if1.true))
 
-out-c : tie.Need-returns-2
-out-c c =
+out_c : tie.Need-returns-2
+out_c c =
     let at_c = c.before in
-    sym (c_out _ _ _ (l-in at_c.before) (sym at_c.is-factor2.ensures ∙ not-true _ c.if2.true))
+    sym (c_out _ _ _ (l_in at_c.before) (sym at_c.is-factor2.ensures ∙ not-true _ c.if2.true))
 
-out-tolerance : tie.Need-returns-3
-out-tolerance c =
+out_tolerance : tie.Need-returns-3
+out_tolerance c =
     let at-tolerance = c.before in
     let in_c = at-tolerance.before in
-    sym (tolerance-out _ _ _ (l-in in_c.before.before) (c-in in_c)
+    sym (tolerance_out _ _ _ (l_in in_c.before.before) (c_in in_c)
     (sym at-tolerance.is-tolerance.ensures ∙ not-true _ c.if3.true))
 
 none : tie.Need-returns-4
 none c =
     let at-tolerance = c.before in
     let in_c = at-tolerance.before in
-    sym (all_in _ _ _ (l-in in_c.before.before) (c-in in_c)
+    sym (all_in _ _ _ (l_in in_c.before.before) (c_in in_c)
     (sym at-tolerance.is-tolerance.ensures ∙ not-false _ c.if3.false))
 
-pub range-refusal-spec : {M : Type 1} → statement M
-range-refusal-spec =
+pub range_refusal_spec : {M : Type 1} → statement M
+range_refusal_spec =
     tie.close
     (tie.spec
     (λ c κs. search rules)
-    out-l
+    out_l
     (λ c κs. search rules)
-    out-c
+    out_c
     (λ c κs. search rules)
-    out-tolerance
+    out_tolerance
     none)

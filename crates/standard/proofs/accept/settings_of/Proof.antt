@@ -1,36 +1,36 @@
 -- `accept::settings_of` meets its contract: one law of `Acceptance/Numbers.antt` for each way out. Assumes nothing.
 use borrow.Author.Rules.{rules}
-use Rattle.standard.specs.Acceptance.Numbers.{no-formula, no-white, both-named}
+use Rattle.standard.specs.Acceptance.Numbers.{no_formula_lem, no_white_lem, both_named}
 use Rattle.standard.proofs.accept.settings_of.Statement.{statement}
 use Rattle.standard.proofs.accept.settings_of.Tie as tie
 
 unknown-formula : tie.Need-returns
 unknown-formula c =
-    let at-formula = c.before.before in no-formula _ _ _ _ _ at-formula.numbered.ensures c.enum_told.given.1
+    let at_formula_lem = c.before.before in no_formula_lem _ _ _ _ _ at_formula_lem.numbered.ensures c.enum_told.given.1
 
 -- ---- where the formula is known
 module _ (c : tie.After-numbered2) where
   abbrev at_f : tie.After-f
   at_f = c.before.before
 
-  abbrev at-formula : tie.After-numbered
-  at-formula = at_f.before.before
+  abbrev at_formula_lem : tie.After-numbered
+  at_formula_lem = at_f.before.before
 
 unknown-white : tie.Need-returns-2
 unknown-white c =
-    let at-white = c.before.before in
-    no-white _ _ _ _ _ (at-formula at-white).numbered.ensures at-white.numbered2.ensures
-    (at_f at-white).f.given.1 c.enum-told2.given.1
+    let at_white_lem = c.before.before in
+    no_white_lem _ _ _ _ _ (at_formula_lem at_white_lem).numbered.ensures at_white_lem.numbered2.ensures
+    (at_f at_white_lem).f.given.1 c.enum-told2.given.1
 
 named : tie.Need-returns-3
 named c =
-    let at-w = c.before in
-    let at-white = at-w.before.before in
-    both-named _ _ _ _ _ (at-formula at-white).numbered.ensures at-white.numbered2.ensures
-    (at_f at-white).f.given.1 at-w.w.given.1
+    let at_w = c.before in
+    let at_white_lem = at_w.before.before in
+    both_named _ _ _ _ _ (at_formula_lem at_white_lem).numbered.ensures at_white_lem.numbered2.ensures
+    (at_f at_white_lem).f.given.1 at_w.w.given.1
 
-pub settings-of-spec : {M : Type 1} → statement M
-settings-of-spec =
+pub settings_of_spec : {M : Type 1} → statement M
+settings_of_spec =
     tie.close
     (tie.spec
     (λ c κs. search rules)

@@ -4,24 +4,24 @@ use borrow.Author.Rules.{rules}
 use lib.IntN.{pos}
 use lib.Ieee.{Float}
 use Rattle.reading.specs.Grid.{value_of}
-use Rattle.colour.specs.Conversion.{atPlaces}
-use Rattle.sheet.specs.Sheet.{semiAxes}
+use Rattle.colour.specs.Conversion.{at_places}
+use Rattle.sheet.specs.Sheet.{semi_axes}
 use Rattle.sheet.specs.declared.semi_axes.SemiAxes.{SemiAxes}
 use Rattle.standard.specs.declared.accept.Standard.{Standard}
 use Rattle.standard.specs.declared.figures.ReferenceFigures.{ReferenceFigures}
-use Rattle.standard.specs.Figures.{referenceFigures}
+use Rattle.standard.specs.Figures.{reference_figures}
 use Rattle.standard.proofs.figures.reference_figures.Statement.{statement}
 use Rattle.standard.proofs.figures.reference_figures.Tie as tie
 
 -- the figures from their parts
 figures-are :
     (s : Standard) {S : SemiAxes} {L a b C SL SC SH : Float} →
-    S ≡ semiAxes 20 s.settings.formula (atPlaces 20 s.colour) →
+    S ≡ semi_axes 20 s.settings.formula (at_places 20 s.colour) →
     L ≡ value_of s.colour.L.0 → a ≡ value_of s.colour.a.0 → b ≡ value_of s.colour.b.0 →
     C ≡ value_of (pos S.C) → SL ≡ value_of (pos S.SL) → SC ≡ value_of (pos S.SC) → SH ≡ value_of (pos S.SH) →
-    ◌≡◌ {A = ReferenceFigures} (record { L = L; a = a; b = b; C = C; SL = SL; SC = SC; SH = SH }) (referenceFigures s)
-unfolding referenceFigures
-figures-are s hS hL ha hb hC hSL hSC hSH = cc
+    ◌≡◌ {A = ReferenceFigures} (record { L = L; a = a; b = b; C = C; SL = SL; SC = SC; SH = SH }) (reference_figures s)
+unfolding reference_figures
+figures-are s h_s h_l ha hb h_c h_sl h_sc h_sh = cc
 
 returns : tie.Need-returns
 returns c =
@@ -30,13 +30,13 @@ returns c =
     let at-C = at-SL.before in
     let at_b = at-C.before in
     let at_a = at_b.before in
-    let at-L = at_a.before in
-    figures-are _ at-L.before.semi-axes-of.ensures at-L.value.ensures at_a.value2.ensures
+    let at_L = at_a.before in
+    figures-are _ at_L.before.semi-axes-of.ensures at_L.value.ensures at_a.value2.ensures
     at_b.value3.ensures
     at-C.value_of_lem.ensures at-SL.value-of2.ensures at-SC.value-of3.ensures c.value-of4.ensures
 
-pub reference-figures-spec : {M : Type 1} → statement M
-reference-figures-spec =
+pub reference_figures_spec : {M : Type 1} → statement M
+reference_figures_spec =
     tie.close
     (tie.spec
     (λ c κs. search rules)

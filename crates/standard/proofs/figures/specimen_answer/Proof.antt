@@ -8,29 +8,29 @@ use Rattle.standard.specs.declared.judge.Outcome.TheVariants.{Judged}
 use Rattle.standard.specs.declared.figures.SpecimenFigures.{SpecimenFigures}
 use Rattle.standard.specs.declared.figures.SpecimenAnswer.{SpecimenAnswer}
 use Rattle.standard.specs.declared.figures.Named.TheVariants.{Names}
-use Rattle.standard.specs.Figures.{specimenFigures, specimenAnswer}
+use Rattle.standard.specs.Figures.{specimen_figures, specimen_answer}
 use Rattle.standard.proofs.figures.specimen_answer.Statement.{statement}
 use Rattle.standard.proofs.figures.specimen_answer.Tie as tie
 
 -- the answer from its figures
-answer-is :
+answer_is :
     {o : Outcome} (j : Judgement) {F : SpecimenFigures} → o ≡ Judged j →
-    F ≡ specimenFigures j.test j.comparison.C j.comparison.differences →
+    F ≡ specimen_figures j.test j.comparison.C j.comparison.differences →
     ◌≡◌ {A = SpecimenAnswer} (record
-    { number = 0; figures = F; names = Names j.lightness j.chroma j.hue j.verdict }) (specimenAnswer o)
-unfolding specimenAnswer
-answer-is j h f = rw (h, f)
+    { number = 0; figures = F; names = Names j.lightness j.chroma j.hue j.verdict }) (specimen_answer o)
+unfolding specimen_answer
+answer_is j h f = rw (h, f)
 
 refused : tie.Need-returns
-unfolding of_bits specimenAnswer
-refused c = sym (ap specimenAnswer c.before.o.given.1)
+unfolding of_bits specimen_answer
+refused c = sym (ap specimen_answer c.before.o.given.1)
 
 judged : tie.Need-returns-2
 judged c =
     let at_test = c.before.before in
     let at-judgement = at_test.before.before in
-    answer-is _ at-judgement.o2.given.1 c.specimen-figures.ensures
+    answer_is _ at-judgement.o2.given.1 c.specimen-figures.ensures
 
-pub specimen-answer-spec : {M : Type 1} → statement M
-specimen-answer-spec =
+pub specimen_answer_spec : {M : Type 1} → statement M
+specimen_answer_spec =
     tie.close (tie.spec (λ c. search rules) (λ c. search rules) (λ c κs. search rules) refused judged)

@@ -10,7 +10,7 @@ use Rattle.reading.specs.Grid.{value_of}
 use Rattle.colour.specs.declared.conversion.GridColour.{GridColour}
 use Rattle.sheet.specs.declared.differences.Differences.{Differences}
 use Rattle.standard.specs.declared.figures.SpecimenFigures.{SpecimenFigures}
-use Rattle.standard.specs.Figures.{specimenFigures}
+use Rattle.standard.specs.Figures.{specimen_figures}
 use Rattle.standard.proofs.figures.specimen_figures.Statement.{statement}
 use Rattle.standard.proofs.figures.specimen_figures.Tie as tie
 
@@ -20,20 +20,20 @@ figures-are :
     L ≡ value_of T.L.0 → a ≡ value_of T.a.0 → b ≡ value_of T.b.0 → C ≡ value_of (pos m) →
     DL ≡ value_of d.DL → DC ≡ value_of d.DC → DH ≡ value_of d.DH → DE ≡ value_of (pos d.DE) →
     ◌≡◌ {A = SpecimenFigures} (record { L = L; a = a; b = b; C = C; DL = DL; DC = DC; DH = DH; DE = DE })
-    (specimenFigures T m d)
-unfolding specimenFigures
-figures-are T m d hL ha hb hC hDL hDC hDH hDE = cc
+    (specimen_figures T m d)
+unfolding specimen_figures
+figures-are T m d h_l ha hb h_c h_dl h_dc h_dh h_de = cc
 
 -- a difference comes back from the machine's number as it was
 module _ (s : tie.Start) where
-  DL-back : to_z w64 (of_z w64 s.args.d.DL) ≡ s.args.d.DL
-  DL-back = search rules
+  DL_back : to_z w64 (of_z w64 s.args.d.DL) ≡ s.args.d.DL
+  DL_back = search rules
 
-  DC-back : to_z w64 (of_z w64 s.args.d.DC) ≡ s.args.d.DC
-  DC-back = search rules
+  DC_back : to_z w64 (of_z w64 s.args.d.DC) ≡ s.args.d.DC
+  DC_back = search rules
 
-  DH-back : to_z w64 (of_z w64 s.args.d.DH) ≡ s.args.d.DH
-  DH-back = search rules
+  DH_back : to_z w64 (of_z w64 s.args.d.DH) ≡ s.args.d.DH
+  DH_back = search rules
 
 returns : tie.Need-returns
 returns c =
@@ -43,14 +43,14 @@ returns c =
     let at-C = at-DL.before.before in
     let at_b = at-C.before in
     let at_a = at_b.before in
-    let at-L = at_a.before in
-    let s = at-L.before in
-    figures-are _ _ _ at-L.value.ensures at_a.value2.ensures at_b.value3.ensures at-C.value_of_lem.ensures
-    (at-DL.value4.ensures ∙ ap value_of (DL-back s)) (at-DC.value5.ensures ∙ ap value_of (DC-back s))
-    (at-DH.value6.ensures ∙ ap value_of (DH-back s)) c.value-of2.ensures
+    let at_L = at_a.before in
+    let s = at_L.before in
+    figures-are _ _ _ at_L.value.ensures at_a.value2.ensures at_b.value3.ensures at-C.value_of_lem.ensures
+    (at-DL.value4.ensures ∙ ap value_of (DL_back s)) (at-DC.value5.ensures ∙ ap value_of (DC_back s))
+    (at-DH.value6.ensures ∙ ap value_of (DH_back s)) c.value-of2.ensures
 
-pub specimen-figures-spec : {M : Type 1} → statement M
-specimen-figures-spec =
+pub specimen_figures_spec : {M : Type 1} → statement M
+specimen_figures_spec =
     tie.close
     (tie.spec
     (λ c κs. search rules)

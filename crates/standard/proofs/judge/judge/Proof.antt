@@ -6,8 +6,8 @@ use Rattle.standard.specs.Judgement.{outcome}
 use Rattle.standard.proofs.judge.judge.Statement.{statement}
 use Rattle.standard.proofs.judge.judge.Tie as tie
 
-on-grid : tie.Need-judgement-of-requires
-on-grid c κs =
+on_grid_lem : tie.Need-judgement-of-requires
+on_grid_lem c κs =
     let at_test = c.before in
     let asked = at_test.before.before.requires in
     record { standard = asked.standard; test = asked.test _ at_test.test.given.1 }
@@ -22,5 +22,5 @@ refused : tie.Need-returns-2
 unfolding outcome
 refused c = let at_test = c.before in sym (ap (outcome _) at_test.test2.given.1)
 
-pub judge-spec : {M : Type 1} → statement M
-judge-spec = tie.close (tie.spec (λ c. search rules) on-grid (λ c. search rules) judged refused)
+pub judge_spec : {M : Type 1} → statement M
+judge_spec = tie.close (tie.spec (λ c. search rules) on_grid_lem (λ c. search rules) judged refused)

@@ -6,38 +6,38 @@ use lib.IntN.{ℤ}
 use mir.Syntax.{w64}
 use mir.Val.{to_z, of_z}
 use Rattle.colour.specs.declared.conversion.GridColour.{GridColour}
-use Rattle.sheet.specs.Sheet.{comparison, toleranceOn, verdictOn}
+use Rattle.sheet.specs.Sheet.{comparison, tolerance_on, verdict_on}
 use Rattle.sheet.specs.declared.comparison.Comparison.{Comparison}
 use Rattle.sheet.specs.declared.scaled.Scaled.{Scaled}
 use Rattle.sheet.specs.declared.verdict.Verdict.{Verdict}
-use Rattle.names.specs.Names.{lightnessName, chromaName, hueNamed, hueName, withheldBy}
-use Rattle.names.specs.Names.Laws.{hue-of-comparison}
+use Rattle.names.specs.Names.{lightness_name, chroma_name, hue_named, hue_name, withheld_by}
+use Rattle.names.specs.Names.Laws.{hue_of_comparison}
 use Rattle.names.specs.declared.Lightness.{Lightness}
 use Rattle.names.specs.declared.Chroma.{Chroma}
 use Rattle.names.specs.declared.Hue.{Hue}
 use Rattle.standard.specs.declared.accept.Standard.{Standard}
 use Rattle.standard.specs.declared.judge.Judgement.{Judgement}
-use Rattle.standard.specs.Judgement.{judgementOf}
+use Rattle.standard.specs.Judgement.{judgement_of}
 use Rattle.standard.proofs.judge.judgement_of.Statement.{statement}
 use Rattle.standard.proofs.judge.judgement_of.Tie as tie
 
 module _ (s : Standard) (T : GridColour) {k : Comparison}
     (hk : k ≡ comparison 20 s.settings.formula s.settings.l s.settings.c s.colour T) where
   -- the cross and the dot of the sheet name the hue
-  hue-is :
+  hue_is :
       {x y a b : ℤ} {hue : Hue} → x ≡ k.cross → y ≡ k.dot → a ≡ s.colour.a.0 → b ≡ s.colour.b.0 →
-      hue ≡ hueNamed x y a b →
-      hue ≡ hueName s.colour T
-  hue-is hx hy ha hb h = rw (h, hx, hy, ha, hb, hk) (hue-of-comparison 20 _ _ _ s.colour T)
+      hue ≡ hue_named x y a b →
+      hue ≡ hue_name s.colour T
+  hue_is hx hy ha hb h = rw (h, hx, hy, ha, hb, hk) (hue_of_comparison 20 _ _ _ s.colour T)
 
   -- the judgement from its parts
-  judgement-is :
+  judgement_is :
       {l c : ℤ} {lightness : Lightness} {chroma : Chroma} {hue : Hue} {t : Scaled} {v : Verdict} {w : Bool} →
-      l ≡ k.shift.L → lightness ≡ lightnessName l →
-      c ≡ k.shift.C → chroma ≡ chromaName c →
-      hue ≡ hueName s.colour T →
-      t ≡ toleranceOn 20 s.settings.formula s.settings.tolerance → v ≡ verdictOn 20 t k.scaled →
-      w ≡ withheldBy s.settings.formula s.colour T →
+      l ≡ k.shift.L → lightness ≡ lightness_name l →
+      c ≡ k.shift.C → chroma ≡ chroma_name c →
+      hue ≡ hue_name s.colour T →
+      t ≡ tolerance_on 20 s.settings.formula s.settings.tolerance → v ≡ verdict_on 20 t k.scaled →
+      w ≡ withheld_by s.settings.formula s.colour T →
       ◌≡◌ {A = Judgement}
       (record {
         standard = s;
@@ -49,58 +49,58 @@ module _ (s : Standard) (T : GridColour) {k : Comparison}
         verdict = v;
         withheld = w;
       })
-      (judgementOf s T)
-  unfolding judgementOf
-  judgement-is hl hlightness hc hchroma hh ht hv hw = cc
+      (judgement_of s T)
+  unfolding judgement_of
+  judgement_is hl hlightness hc hchroma hh ht hv hw = cc
 
 module _ (c : tie.After-comparison-of) where
-  L-back : to_z w64 (of_z w64 c.comparison-of.result.shift.L) ≡ c.comparison-of.result.shift.L
-  L-back = search rules
+  L_back : to_z w64 (of_z w64 c.comparison-of.result.shift.L) ≡ c.comparison-of.result.shift.L
+  L_back = search rules
 
-  C-back : to_z w64 (of_z w64 c.comparison-of.result.shift.C) ≡ c.comparison-of.result.shift.C
-  C-back = search rules
+  C_back : to_z w64 (of_z w64 c.comparison-of.result.shift.C) ≡ c.comparison-of.result.shift.C
+  C_back = search rules
 
 -- ---- the places that the answers speak of, seen from where the hue is named
 module _ (c : tie.After-hue-name) where
-  abbrev at-chroma : tie.After-chroma-name
-  at-chroma = let told : tie.After-struct-told4 = c.before.before.before in told.before.before
+  abbrev at_chroma : tie.After-chroma-name
+  at_chroma = let told : tie.After-struct-told4 = c.before.before.before in told.before.before
 
-  abbrev at-lightness : tie.After-lightness-name
-  at-lightness = at-chroma.before.before
+  abbrev at_lightness : tie.After-lightness-name
+  at_lightness = at_chroma.before.before
 
-  abbrev at-sheet : tie.After-comparison-of
-  at-sheet = at-lightness.before.before
+  abbrev at_sheet : tie.After-comparison-of
+  at_sheet = at_lightness.before.before
 
   abbrev start : tie.Start
-  start = let at-colour : tie.After-colour = at-sheet.before in at-colour.before.before
+  start = let at_colour : tie.After-colour = at_sheet.before in at_colour.before.before
 
   abbrev found : Comparison
-  found = at-sheet.comparison-of.result
+  found = at_sheet.comparison-of.result
 
   abbrev R : GridColour
   R = start.args.s.colour
 
-  named : c.hue-name.result ≡ hueName R start.args.t
+  named : c.hue-name.result ≡ hue_name R start.args.t
   named =
       let cross : to_z w64 (of_z w64 found.cross) ≡ found.cross = search rules in
       let dot : to_z w64 (of_z w64 found.dot) ≡ found.dot = search rules in
       let a : to_z w64 (of_z w64 R.a.0) ≡ R.a.0 = search rules in
       let b : to_z w64 (of_z w64 R.b.0) ≡ R.b.0 = search rules in
-      hue-is start.args.s start.args.t at-sheet.comparison-of.ensures cross dot a b c.hue-name.ensures
+      hue_is start.args.s start.args.t at_sheet.comparison-of.ensures cross dot a b c.hue-name.ensures
 
 returns : tie.Need-returns
 returns c =
     let at-verdict = c.before in
     let at-tolerance = at-verdict.before in
     let h = at-tolerance.before in
-    judgement-is _ _ (at-sheet h).comparison-of.ensures (L-back (at-sheet h))
-    (at-lightness h).lightness-name.ensures
-    (C-back (at-sheet h)) (at-chroma h).chroma-name.ensures (named h) at-tolerance.tolerance.ensures
+    judgement_is _ _ (at_sheet h).comparison-of.ensures (L_back (at_sheet h))
+    (at_lightness h).lightness-name.ensures
+    (C_back (at_sheet h)) (at_chroma h).chroma-name.ensures (named h) at-tolerance.tolerance.ensures
     at-verdict.verdict.ensures
     c.is-withheld.ensures
 
-pub judgement-of-spec : {M : Type 1} → statement M
-judgement-of-spec =
+pub judgement_of_spec : {M : Type 1} → statement M
+judgement_of_spec =
     tie.close
     (tie.spec
     (λ c κs. search rules)

@@ -9,8 +9,8 @@ returns : tie.Need-returns
 unfolding four
 returns c = omega arith
 
-pub four-at-spec : {M : Type 1} → statement M
-four-at-spec =
+pub four_at_spec : {M : Type 1} → statement M
+four_at_spec =
     tie.close
     (tie.spec
     (λ c. search rules)

@@ -5,17 +5,17 @@ use borrow.Author.Rules.{rules}
 use mir.Syntax.{w64}
 use mir.Val.{to_z, of_z}
 use mir.Facts.{to_z_pos}
-use Rattle.station.specs.Record.Laws.{ofTwos-low, ofTwos-high}
+use Rattle.station.specs.Record.Laws.{of_twos-low, of_twos-high}
 use Rattle.station.proofs.bytes.of_twos.Statement.{statement}
 use Rattle.station.proofs.bytes.of_twos.Tie as tie
 
 low : tie.Need-returns
-low c = to_z_pos w64 (omega arith) ∙ sym (ofTwos-low _ c.if1.true)
+low c = to_z_pos w64 (omega arith) ∙ sym (of_twos-low _ c.if1.true)
 
 high : tie.Need-returns-2
 high c =
     let back : to_z w64 (of_z w64 c.with-sign.result) ≡ c.with-sign.result = search rules in
-    back ∙ c.with-sign.ensures ∙ sym (ofTwos-high _ c.before.if1.false)
+    back ∙ c.with-sign.ensures ∙ sym (of_twos-high _ c.before.if1.false)
 
-pub of-twos-spec : {M : Type 1} → statement M
-of-twos-spec = tie.close (tie.spec (λ c. search rules) low (λ c. search rules) (λ c κs. search rules) high)
+pub of_twos_spec : {M : Type 1} → statement M
+of_twos_spec = tie.close (tie.spec (λ c. search rules) low (λ c. search rules) (λ c κs. search rules) high)

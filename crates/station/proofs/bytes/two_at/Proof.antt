@@ -9,8 +9,8 @@ returns : tie.Need-returns
 unfolding two
 returns c = omega arith
 
-pub two-at-spec : {M : Type 1} → statement M
-two-at-spec =
+pub two_at_spec : {M : Type 1} → statement M
+two_at_spec =
     tie.close
     (tie.spec
     (λ c. search rules)

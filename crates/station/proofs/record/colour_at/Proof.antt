@@ -3,20 +3,20 @@ use mathlib.Core.Path.{◌≡◌, sym, ap, ◌∙◌}
 use mathlib.Core.List.{List}
 use Prim.Native.Nat.{ℕ}
 use borrow.Author.Rules.{rules}
-use Rattle.reading.specs.Grid.{gridOf}
+use Rattle.reading.specs.Grid.{grid_of}
 use Rattle.reading.specs.declared.grid.Grid.{Grid}
 use Rattle.colour.specs.declared.conversion.GridColour.{GridColour}
-use Rattle.station.specs.Record.{four, ofTwos, colourIn, placed}
-use Rattle.station.specs.Record.Laws.{placed-is, not-placed}
+use Rattle.station.specs.Record.{four, of_twos, colour_in, placed}
+use Rattle.station.specs.Record.Laws.{placed_is, not_placed}
 use Rattle.station.proofs.record.colour_at.Statement.{statement}
 use Rattle.station.proofs.record.colour_at.Tie as tie
 
 -- the colour from its numbers
-colour-is :
-    (xs : List ℕ) {L a b : Grid} → L ≡ gridOf (ofTwos (four xs 8)) → a ≡ gridOf (ofTwos (four xs 12)) →
-    b ≡ gridOf (ofTwos (four xs 16)) →
-    ◌≡◌ {A = GridColour} (record { L = L; a = a; b = b }) (colourIn xs)
-colour-is xs hL ha hb = λ i. record { L = hL i; a = ha i; b = hb i }
+colour_is :
+    (xs : List ℕ) {L a b : Grid} → L ≡ grid_of (of_twos (four xs 8)) → a ≡ grid_of (of_twos (four xs 12)) →
+    b ≡ grid_of (of_twos (four xs 16)) →
+    ◌≡◌ {A = GridColour} (record { L = L; a = a; b = b }) (colour_in xs)
+colour_is xs h_l ha hb = λ i. record { L = h_l i; a = ha i; b = hb i }
 
 -- ---- where the grid's test is made
 module _ (c : tie.After-is-on-grid) where
@@ -24,35 +24,35 @@ module _ (c : tie.After-is-on-grid) where
   at_b = c.before
 
   abbrev bytes : List ℕ
-  bytes = let at-L : tie.After-grid-at = at_b.before.before in at-L.before.before.args.s.now
+  bytes = let at_L : tie.After-grid-at = at_b.before.before in at_L.before.before.args.s.now
 
   read :
       record {
         L = at_b.before.before.grid-at.result;
         a = at_b.before.grid-at2.result;
         b = at_b.grid-at3.result;
-      } ≡ colourIn bytes
+      } ≡ colour_in bytes
   read =
-      colour-is bytes at_b.before.before.grid-at.ensures at_b.before.grid-at2.ensures
+      colour_is bytes at_b.before.before.grid-at.ensures at_b.before.grid-at2.ensures
       at_b.grid-at3.ensures
 
-on-grid : tie.Need-returns
-on-grid c =
+on_grid_lem : tie.Need-returns
+on_grid_lem c =
     let tested = c.before in
-    sym (placed-is (sym tested.is-on-grid.ensures ∙ c.if1.true)) ∙ ap placed (read tested)
+    sym (placed_is (sym tested.is-on-grid.ensures ∙ c.if1.true)) ∙ ap placed (read tested)
 
 beyond : tie.Need-returns-2
 beyond c =
     let tested = c.before in
-    sym (not-placed _ (sym tested.is-on-grid.ensures ∙ c.if1.false)) ∙ ap placed (read tested)
+    sym (not_placed _ (sym tested.is-on-grid.ensures ∙ c.if1.false)) ∙ ap placed (read tested)
 
-pub colour-at-spec : {M : Type 1} → statement M
-colour-at-spec =
+pub colour_at_spec : {M : Type 1} → statement M
+colour_at_spec =
     tie.close
     (tie.spec
     (λ c κs. search rules)
     (λ c κs. search rules)
     (λ c κs. search rules)
     (λ c κs. search rules)
-    on-grid
+    on_grid_lem
     beyond)

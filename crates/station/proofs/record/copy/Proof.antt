@@ -35,14 +35,14 @@ whole d s d₀ j e hd hs =
 loop-holds : tie.Need-loop-init invariant-loop decreases-loop
 loop-holds c = (paste-zero c.args.dst.now 0 c.args.src.now, omega arith, refl)
 
-shared-slice-read-dst : tie.Need-shared-slice-read-dst invariant-loop decreases-loop
-shared-slice-read-dst c = omega arith
+shared_slice_read_dst : tie.Need-shared-slice-read-dst invariant-loop decreases-loop
+shared_slice_read_dst c = omega arith
 
 slice-write-dst : tie.Need-slice-write-dst invariant-loop decreases-loop
 slice-write-dst c = omega arith
 
-add-i : tie.Need-overflow-add-i invariant-loop decreases-loop
-add-i c = omega arith
+add_i : tie.Need-overflow-add-i invariant-loop decreases-loop
+add_i c = omega arith
 
 loop-less : tie.Need-loop-smaller invariant-loop decreases-loop
 loop-less c = omega arith
@@ -66,9 +66,9 @@ copy_spec =
     invariant-loop
     decreases-loop
     loop-holds
-    shared-slice-read-dst
+    shared_slice_read_dst
     slice-write-dst
-    add-i
+    add_i
     loop-less
     loop-again
     same_length

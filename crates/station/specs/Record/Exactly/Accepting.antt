@@ -3,7 +3,7 @@
 use Rattle.std.specs.Prelude.{◌≡◌, refl, Bool, true, false, cond, ◌⊎◌, ℕ, ◌≤◌, leb, eqb}
 use Rattle.std.proofs.Common.{sym, subst, ◌∙◌, true≢false, inl, inr, ⊎_elim, not-le_of_lt, arith, leb-true, leb-false, eqb-true}
 use Rattle.std.proofs.lemmas.Bool.{eqb-false}
-use Rattle.colour.specs.White.{whiteNumbered}
+use Rattle.colour.specs.White.{white_numbered}
 use Rattle.colour.specs.declared.conversion.GridColour.{GridColour}
 use Rattle.colour.specs.declared.placed.Placed.{Placed}
 use Rattle.colour.specs.declared.placed.Placed.TheVariants as P
@@ -11,17 +11,17 @@ use Rattle.colour.specs.declared.white.White.{White}
 use Rattle.colour.specs.declared.white.White.TheVariants.{D65Ten, D65Two, CTen, CTwo}
 use Rattle.colour.specs.declared.white.Numbered.{Numbered}
 use Rattle.colour.specs.declared.white.Numbered.TheVariants as W
-use Rattle.sheet.specs.Settings.{formulaNumbered, within, isFactor, isTolerance}
-use Rattle.sheet.specs.Settings.Laws.{within_in, within-true}
+use Rattle.sheet.specs.Settings.{formula_numbered, within, is_factor, is_tolerance}
+use Rattle.sheet.specs.Settings.Laws.{within_in, within_true}
 use Rattle.sheet.specs.declared.formula.Formula.{Formula}
 use Rattle.sheet.specs.declared.formula.Formula.TheVariants.{CIELAB, CIE94, CMC}
 use Rattle.sheet.specs.declared.formula.NumberedFormula.{NumberedFormula}
 use Rattle.sheet.specs.declared.formula.NumberedFormula.TheVariants as F
 use Rattle.sheet.specs.declared.settings.Settings.{Settings}
 use Rattle.standard.specs.Refusals.{number_at, first_of, refusal}
-use Rattle.standard.specs.Acceptance.{named, settingsOf, rangeFaults, acceptance}
-use Rattle.standard.specs.Acceptance.Laws.{l-out, c_out, tolerance-out as tolerance-off, all_in}
-use Rattle.standard.specs.Acceptance.Laws.{settings-refused, reference-refused, is-accepted}
+use Rattle.standard.specs.Acceptance.{named, settings_of, range_faults, acceptance}
+use Rattle.standard.specs.Acceptance.Laws.{l_out, c_out, tolerance_out as tolerance-off, all_in}
+use Rattle.standard.specs.Acceptance.Laws.{settings-refused, reference-refused, is_accepted}
 use Rattle.standard.specs.declared.accept.SettingsOf.{SettingsOf}
 use Rattle.standard.specs.declared.accept.SettingsOf.TheVariants as S
 use Rattle.standard.specs.declared.accept.Acceptance.{Acceptance}
@@ -34,8 +34,8 @@ inside : {low high n : ℕ} → low ≤ n → n ≤ high → ¬ (Outside low hig
 inside l h (inl o) = not-le_of_lt o l
 inside l h (inr o) = not-le_of_lt o h
 
-is-inside : {low high n k : ℕ} → n ≡ k → low ≤ k → k ≤ high → ¬ (Outside low high n)
-is-inside e l h = inside (omega arith) (omega arith)
+is_inside : {low high n k : ℕ} → n ≡ k → low ≤ k → k ≤ high → ¬ (Outside low high n)
+is_inside e l h = inside (omega arith) (omega arith)
 
 -- what lies nowhere within lies outside
 outside : (low high n : ℕ) → (low ≤ n → n ≤ high → ⊥) → Outside low high n
@@ -48,7 +48,7 @@ outside low high n nowhere = go (leb low n) refl (leb n high) refl
 
 module _ (low high n : ℕ) where
   pub inside_of : within low high n ≡ true → ¬ (Outside low high n)
-  inside_of e = let (l, h) = within-true low high n e in inside l h
+  inside_of e = let (l, h) = within_true low high n e in inside l h
 
   pub outside_of : within low high n ≡ false → Outside low high n
   outside_of e = outside low high n (λ l h. true≢false (sym (within_in low high n l h) ∙ e))
@@ -56,66 +56,66 @@ module _ (low high n : ℕ) where
 -- ---- numbers become settings, unless one names nothing
 
 data Formulas (n : ℕ) : NumberedFormula → Type 0 where
-  formula-none : NoFormula n → Formulas n F.Unknown
-  formula-one : ¬ (NoFormula n) → (f : Formula) → Formulas n (F.Is f)
+  formula_none : NoFormula n → Formulas n F.Unknown
+  formula_one : ¬ (NoFormula n) → (f : Formula) → Formulas n (F.Is f)
 
-formulas : (n : ℕ) → Formulas n (formulaNumbered n)
-unfolding formulaNumbered
+formulas : (n : ℕ) → Formulas n (formula_numbered n)
+unfolding formula_numbered
 formulas n = go (eqb n 1) refl (eqb n 2) refl (eqb n 3) refl
   where
     go :
         (p : Bool) → eqb n 1 ≡ p → (q : Bool) → eqb n 2 ≡ q → (r : Bool) → eqb n 3 ≡ r →
         Formulas n (cond p (F.Is CIELAB) (cond q (F.Is CIE94) (cond r (F.Is CMC) F.Unknown)))
-    go true hp q hq r hr = formula-one (is-inside (eqb-true n 1 hp) (omega arith) (omega arith)) CIELAB
-    go false hp true hq r hr = formula-one (is-inside (eqb-true n 2 hq) (omega arith) (omega arith)) CIE94
-    go false hp false hq true hr = formula-one (is-inside (eqb-true n 3 hr) (omega arith) (omega arith)) CMC
+    go true hp q hq r hr = formula_one (is_inside (eqb-true n 1 hp) (omega arith) (omega arith)) CIELAB
+    go false hp true hq r hr = formula_one (is_inside (eqb-true n 2 hq) (omega arith) (omega arith)) CIE94
+    go false hp false hq true hr = formula_one (is_inside (eqb-true n 3 hr) (omega arith) (omega arith)) CMC
     go false hp false hq false hr =
-        formula-none (outside 1 3 n (λ l h. omega (arith, eqb-false n 1 hp, eqb-false n 2 hq, eqb-false n 3 hr)))
+        formula_none (outside 1 3 n (λ l h. omega (arith, eqb-false n 1 hp, eqb-false n 2 hq, eqb-false n 3 hr)))
 
 pub data Whites (n : ℕ) : Numbered → Type 0 where
-  white-none : NoWhite n → Whites n W.Unknown
-  white-one : ¬ (NoWhite n) → (w : White) → Whites n (W.Is w)
+  white_none : NoWhite n → Whites n W.Unknown
+  white_one : ¬ (NoWhite n) → (w : White) → Whites n (W.Is w)
 
-pub whites : (n : ℕ) → Whites n (whiteNumbered n)
-unfolding whiteNumbered
+pub whites : (n : ℕ) → Whites n (white_numbered n)
+unfolding white_numbered
 whites n = go (eqb n 1) refl (eqb n 2) refl (eqb n 3) refl (eqb n 4) refl
   where
     go :
         (p : Bool) → eqb n 1 ≡ p → (q : Bool) → eqb n 2 ≡ q → (r : Bool) → eqb n 3 ≡ r → (s : Bool) → eqb n 4 ≡ s →
         Whites n (cond p (W.Is D65Ten) (cond q (W.Is D65Two) (cond r (W.Is CTen) (cond s (W.Is CTwo) W.Unknown))))
-    go true hp q hq r hr s hs = white-one (is-inside (eqb-true n 1 hp) (omega arith) (omega arith)) D65Ten
-    go false hp true hq r hr s hs = white-one (is-inside (eqb-true n 2 hq) (omega arith) (omega arith)) D65Two
-    go false hp false hq true hr s hs = white-one (is-inside (eqb-true n 3 hr) (omega arith) (omega arith)) CTen
-    go false hp false hq false hr true hs = white-one (is-inside (eqb-true n 4 hs) (omega arith) (omega arith)) CTwo
+    go true hp q hq r hr s hs = white_one (is_inside (eqb-true n 1 hp) (omega arith) (omega arith)) D65Ten
+    go false hp true hq r hr s hs = white_one (is_inside (eqb-true n 2 hq) (omega arith) (omega arith)) D65Two
+    go false hp false hq true hr s hs = white_one (is_inside (eqb-true n 3 hr) (omega arith) (omega arith)) CTen
+    go false hp false hq false hr true hs = white_one (is_inside (eqb-true n 4 hs) (omega arith) (omega arith)) CTwo
     go false hp false hq false hr false hs =
-        white-none
+        white_none
         (outside 1 4 n (λ l h. omega (arith, eqb-false n 1 hp, eqb-false n 2 hq, eqb-false n 3 hr, eqb-false n 4 hs)))
 
 pub data Named (formula white l c tolerance : ℕ) : SettingsOf → Type 0 where
-  no-formula : NoFormula formula → Named formula white l c tolerance (S.Refused 1)
-  no-white : ¬ (NoFormula formula) → NoWhite white → Named formula white l c tolerance (S.Refused 2)
+  no_formula_lem : NoFormula formula → Named formula white l c tolerance (S.Refused 1)
+  no_white_lem : ¬ (NoFormula formula) → NoWhite white → Named formula white l c tolerance (S.Refused 2)
   are :
-      ¬ (NoFormula formula) → ¬ (NoWhite white) → (f : Formula) (w : White) → whiteNumbered white ≡ W.Is w →
+      ¬ (NoFormula formula) → ¬ (NoWhite white) → (f : Formula) (w : White) → white_numbered white ≡ W.Is w →
       Named formula white l c tolerance (S.Are (record { formula = f; white = w; l = l; c = c; tolerance = tolerance }))
 
 pub names :
-    (formula white l c tolerance : ℕ) → Named formula white l c tolerance (settingsOf formula white l c tolerance)
-unfolding settingsOf refusal number_at first_of
+    (formula white l c tolerance : ℕ) → Named formula white l c tolerance (settings_of formula white l c tolerance)
+unfolding settings_of refusal number_at first_of
 names formula white l c tolerance = go _ (formulas formula) _ (whites white) refl
   where
     go :
-        (f : NumberedFormula) → Formulas formula f → (w : Numbered) → Whites white w → whiteNumbered white ≡ w →
+        (f : NumberedFormula) → Formulas formula f → (w : Numbered) → Whites white w → white_numbered white ≡ w →
         Named formula white l c tolerance (named f w l c tolerance)
-    go f (formula-none h) w v e = no-formula h
-    go f (formula-one h k) w (white-none g) e = no-white h g
-    go f (formula-one h k) w (white-one g m) e = are h g k m e
+    go f (formula_none h) w v e = no_formula_lem h
+    go f (formula_one h k) w (white_none g) e = no_white_lem h g
+    go f (formula_one h k) w (white_one g m) e = are h g k m e
 
 -- ---- settings and a reference are accepted, unless one is outside
 
 pub data Accepts (s : Settings) (p : Placed) : Acceptance → Type 0 where
-  factors-out : FactorsOut s.l s.c → Accepts s p (Refused 3)
-  tolerance-out : ¬ (FactorsOut s.l s.c) → ToleranceOut s.tolerance → Accepts s p (Refused 4)
-  reference-out :
+  factors_out : FactorsOut s.l s.c → Accepts s p (Refused 3)
+  tolerance_out : ¬ (FactorsOut s.l s.c) → ToleranceOut s.tolerance → Accepts s p (Refused 4)
+  reference_out :
       ¬ (FactorsOut s.l s.c) → ¬ (ToleranceOut s.tolerance) → (n : ℕ) → p ≡ P.Refused n →
       Accepts s p (Refused n)
   accepts :
@@ -123,28 +123,28 @@ pub data Accepts (s : Settings) (p : Placed) : Acceptance → Type 0 where
       Accepts s p (Accepted (record { settings = s; colour = c }))
 
 pub accepting : (s : Settings) (p : Placed) → Accepts s p (acceptance s p)
-accepting s p = go (isFactor s.l) refl (isFactor s.c) refl (isTolerance s.tolerance) refl
+accepting s p = go (is_factor s.l) refl (is_factor s.c) refl (is_tolerance s.tolerance) refl
   where
     settings :
-        {n : ℕ} → refusal (rangeFaults s.l s.c s.tolerance) ≡ n → ¬ (n ≡ 0) → Accepts s p (Refused n) →
+        {n : ℕ} → refusal (range_faults s.l s.c s.tolerance) ≡ n → ¬ (n ≡ 0) → Accepts s p (Refused n) →
         Accepts s p (acceptance s p)
     settings e some = subst (λ (a : Acceptance). Accepts s p a) (settings-refused s p (sym e) some)
 
     reference :
-        refusal (rangeFaults s.l s.c s.tolerance) ≡ 0 → ¬ (FactorsOut s.l s.c) →
+        refusal (range_faults s.l s.c s.tolerance) ≡ 0 → ¬ (FactorsOut s.l s.c) →
         ¬ (ToleranceOut s.tolerance) → (q : Placed) → p ≡ q → Accepts s p (acceptance s q)
     reference none f t (P.Refused n) e =
-        subst (λ (a : Acceptance). Accepts s p a) (reference-refused s none n) (reference-out f t n e)
-    reference none f t (P.At c) e = subst (λ (a : Acceptance). Accepts s p a) (is-accepted s none c) (accepts f t c e)
+        subst (λ (a : Acceptance). Accepts s p a) (reference-refused s none n) (reference_out f t n e)
+    reference none f t (P.At c) e = subst (λ (a : Acceptance). Accepts s p a) (is_accepted s none c) (accepts f t c e)
 
     go :
-        (a : Bool) → isFactor s.l ≡ a → (b : Bool) → isFactor s.c ≡ b →
-        (d : Bool) → isTolerance s.tolerance ≡ d → Accepts s p (acceptance s p)
-    go false hl b hc d ht = settings (l-out _ _ _ hl) (λ z. omega arith) (factors-out (inl (outside_of _ _ _ hl)))
-    go true hl false hc d ht = settings (c_out _ _ _ hl hc) (λ z. omega arith) (factors-out (inr (outside_of _ _ _ hc)))
+        (a : Bool) → is_factor s.l ≡ a → (b : Bool) → is_factor s.c ≡ b →
+        (d : Bool) → is_tolerance s.tolerance ≡ d → Accepts s p (acceptance s p)
+    go false hl b hc d ht = settings (l_out _ _ _ hl) (λ z. omega arith) (factors_out (inl (outside_of _ _ _ hl)))
+    go true hl false hc d ht = settings (c_out _ _ _ hl hc) (λ z. omega arith) (factors_out (inr (outside_of _ _ _ hc)))
     go true hl true hc false ht =
         settings (tolerance-off _ _ _ hl hc ht) (λ z. omega arith)
-        (tolerance-out (⊎_elim (inside_of _ _ _ hl) (inside_of _ _ _ hc)) (outside_of _ _ _ ht))
+        (tolerance_out (⊎_elim (inside_of _ _ _ hl) (inside_of _ _ _ hc)) (outside_of _ _ _ ht))
     go true hl true hc true ht =
         reference (all_in _ _ _ hl hc ht)
         (⊎_elim (inside_of _ _ _ hl) (inside_of _ _ _ hc)) (inside_of _ _ _ ht) p refl

@@ -6,7 +6,7 @@ use mathlib.Core.List.{List}
 use native.Mathlib.Omega.{arith}
 use lib.ListN.{length, drop}
 use Rattle.text.specs.Bytes.{index_of}
-use Rattle.text.specs.Bytes.Laws.{index-zero, index-suc, index-of-end}
+use Rattle.text.specs.Bytes.Laws.{index-zero, index-suc, index_of_end}
 use Rattle.text.proofs.bytes.find.Statement.{statement}
 use Rattle.text.proofs.bytes.find.Tie as tie
 
@@ -45,7 +45,7 @@ returns-2 c =
     let l = c.before in
     let a = l.before.args in
     record {
-      first = omega (arith, index-of-end a.b a.s.now l.loop.i c.loop-test.false);
+      first = omega (arith, index_of_end a.b a.s.now l.loop.i c.loop-test.false);
       within = l.loop.invariant.within;
     }
 

@@ -14,8 +14,8 @@ returns-2 c =
     let f = c.before.before in
     nothing-after _ _ f.find.ensures c.before.if1.false
 
-pub part-after-spec : {M : Type 1} → statement M
-part-after-spec =
+pub part_after_spec : {M : Type 1} → statement M
+part_after_spec =
     tie.close
     (tie.spec
     (λ c κs. search rules)

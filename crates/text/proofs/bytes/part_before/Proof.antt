@@ -2,7 +2,7 @@
 use mathlib.Core.Path.{sym}
 use lib.Seq.{length-take-le}
 use borrow.Author.Rules.{rules}
-use Rattle.text.specs.Bytes.Laws.{take-before}
+use Rattle.text.specs.Bytes.Laws.{take_before}
 use Rattle.text.proofs.bytes.part_before.Statement.{statement}
 use Rattle.text.proofs.bytes.part_before.Tie as tie
 
@@ -10,7 +10,7 @@ slice-aggregate-result : tie.Need-slice-aggregate-result
 slice-aggregate-result c = sym (length-take-le _ _ c.before.find.ensures.within)
 
 returns : tie.Need-returns
-returns c = take-before _ _ c.before.find.ensures
+returns c = take_before _ _ c.before.find.ensures
 
-pub part-before-spec : {M : Type 1} → statement M
-part-before-spec = tie.close (tie.spec (λ c κs. search rules) slice-aggregate-result returns)
+pub part_before_spec : {M : Type 1} → statement M
+part_before_spec = tie.close (tie.spec (λ c κs. search rules) slice-aggregate-result returns)

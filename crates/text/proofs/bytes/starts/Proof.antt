@@ -6,7 +6,7 @@ use mathlib.Core.List.{List}
 use native.Mathlib.Omega.{arith}
 use lib.ListN.{length, drop}
 use Rattle.text.specs.Bytes.{starts_with}
-use Rattle.text.specs.Bytes.Laws.{starts-short, starts-next, starts-false, starts-true}
+use Rattle.text.specs.Bytes.Laws.{starts-short, starts-next, starts_false, starts_true}
 use Rattle.text.proofs.bytes.starts.Statement.{statement}
 use Rattle.text.proofs.bytes.starts.Tie as tie
 
@@ -32,7 +32,7 @@ differs c =
     let turn = compared.before.before in
     let l = turn.before in
     let a = l.before.before.args in
-    sym (l.loop.invariant.goes_on ∙ starts-false a.key.now a.s.now l.loop.i turn.loop-test.true
+    sym (l.loop.invariant.goes_on ∙ starts_false a.key.now a.s.now l.loop.i turn.loop-test.true
     l.loop.invariant.fits c.if2.true)
 
 loop-again : tie.Need-loop-preserved invariant-loop decreases-loop
@@ -49,10 +49,10 @@ whole : tie.Need-returns-3 invariant-loop decreases-loop
 whole c =
     let l = c.before in
     let a = l.before.before.args in
-    sym (l.loop.invariant.goes_on ∙ starts-true a.key.now a.s.now l.loop.i c.loop-test.false)
+    sym (l.loop.invariant.goes_on ∙ starts_true a.key.now a.s.now l.loop.i c.loop-test.false)
 
-pub starts-spec : {M : Type 1} → statement M
-starts-spec =
+pub starts_spec : {M : Type 1} → statement M
+starts_spec =
     tie.close
     (tie.spec
     invariant-loop

@@ -6,9 +6,9 @@ use native.Mathlib.Omega.{arith}
 use native.Mathlib.Nat.{add-zero, sub-zero, div-one}
 use lib.ListN.{length, set, length-set}
 use Rattle.text.specs.Put.{put_at, Puts}
-use Rattle.text.specs.Put.Laws.{put-before, put-nil}
-use Rattle.text.specs.Decimal.{lastDigits}
-use Rattle.text.specs.Decimal.Laws.{last-digits-zero, last-digits-more, last-digits-length, div-pow-more}
+use Rattle.text.specs.Put.Laws.{put_before, put-nil}
+use Rattle.text.specs.Decimal.{last_digits}
+use Rattle.text.specs.Decimal.Laws.{last_digits_zero, last_digits_more, last_digits_length, div_pow_more}
 use Rattle.text.proofs.decimal.put_digits.Statement.{statement}
 use Rattle.text.proofs.decimal.put_digits.Tie as tie
 
@@ -16,17 +16,17 @@ use Rattle.text.proofs.decimal.put_digits.Tie as tie
 record Digits (d₀ : List ℕ) (at k n : ℕ) (d : List ℕ) (left j : ℕ) : Type 0 where
   room : at + k ≤ length d₀
   some : j ≤ k
-  done : d ≡ put_at d₀ (at + j) (lastDigits (k - j) n)
+  done : d ≡ put_at d₀ (at + j) (last_digits (k - j) n)
   rest : left ≡ n / 10 ^ (k - j)
   same : length d ≡ length d₀
 
-digits-none : (d : List ℕ) (at k n : ℕ) → at + k ≤ length d → Digits d at k n d n k
-digits-none d at k n h =
+digits_none : (d : List ℕ) (at k n : ℕ) → at + k ≤ length d → Digits d at k n d n k
+digits_none d at k n h =
     let none : k - k ≡ 0 = omega arith in
     record {
       room = h;
       some = omega arith;
-      done = rw (none, last-digits-zero n) (sym (put-nil d (at + k)));
+      done = rw (none, last_digits_zero n) (sym (put-nil d (at + k)));
       rest = rw none (sym (div-one n));
       same = refl;
     }
@@ -36,22 +36,22 @@ module _ {d₀ d : List ℕ} {at k n left j : ℕ} (p : Digits d₀ at k n d lef
   digits_more h =
       let one_less : k - (j - 1) ≡ k - j + 1 = omega arith in
       let before : at + j ≡ at + (j - 1) + 1 = omega arith in
-      let free : at + (j - 1) + 1 + length (lastDigits (k - j) n) ≤ length d₀ = rw last-digits-length (omega arith) in
+      let free : at + (j - 1) + 1 + length (last_digits (k - j) n) ≤ length d₀ = rw last_digits_length (omega arith) in
       record {
         room = p.room;
         some = omega arith;
         done =
-            rw (one_less, last-digits-more, p.done, p.rest, before)
-            (put-before d₀ (at + (j - 1)) (lastDigits (k - j) n) _ free);
-        rest = rw (one_less, p.rest) (div-pow-more n (k - j));
+            rw (one_less, last_digits_more, p.done, p.rest, before)
+            (put_before d₀ (at + (j - 1)) (last_digits (k - j) n) _ free);
+        rest = rw (one_less, p.rest) (div_pow_more n (k - j));
         same = simp length-set p.same;
       }
 
   -- once no digit is to come, all of them are put
-  digits-all : j ≤ 0 → Puts d₀ at (lastDigits k n) (at + k) d
-  digits-all h =
+  digits_all : j ≤ 0 → Puts d₀ at (last_digits k n) (at + k) d
+  digits_all h =
       let none : j ≡ 0 = omega arith in
-      record { end = rw last-digits-length; bytes = p.done ∙ rw none (simp (add-zero, sub-zero)) }
+      record { end = rw last_digits_length; bytes = p.done ∙ rw none (simp (add-zero, sub-zero)) }
 
 abbrev invariant-loop : tie.invariant-loop
 invariant-loop dst₀ at k n left₀ j₀ dst left j = Digits dst₀ at k n dst left j
@@ -60,16 +60,16 @@ abbrev decreases-loop : tie.decreases-loop
 decreases-loop dst₀ at k n left₀ j₀ dst left j = j
 
 loop-holds : tie.Need-loop-init invariant-loop decreases-loop
-loop-holds c = digits-none _ _ _ _ (omega (arith, last-digits-length c.args.k c.args.n))
+loop-holds c = digits_none _ _ _ _ (omega (arith, last_digits_length c.args.k c.args.n))
 
 loop-again : tie.Need-loop-preserved invariant-loop decreases-loop
 loop-again c = digits_more c.before.loop.invariant (omega arith)
 
 returns : tie.Need-returns invariant-loop decreases-loop
-returns c = digits-all c.before.loop.invariant c.loop-test.false
+returns c = digits_all c.before.loop.invariant c.loop-test.false
 
-pub put-digits-spec : {M : Type 1} → statement M
-put-digits-spec =
+pub put_digits_spec : {M : Type 1} → statement M
+put_digits_spec =
     tie.close
     (tie.spec
     invariant-loop

@@ -3,14 +3,14 @@ use mathlib.Core.Path.{◌≡◌, sym, ap, ◌∙◌}
 use Prim.Native.Nat.{ℕ}
 use borrow.Author.Rules.{rules}
 use lib.ListN.{length}
-use Rattle.text.specs.Decimal.{width, lastDigits, wholeText}
-use Rattle.text.specs.Decimal.Laws.{last-digits-length}
-use Rattle.text.specs.Put.Laws.{room_as, puts-as}
+use Rattle.text.specs.Decimal.{width, last_digits, whole_text}
+use Rattle.text.specs.Decimal.Laws.{last_digits_length}
+use Rattle.text.specs.Put.Laws.{room_as, puts_as}
 use Rattle.text.proofs.decimal.put_whole.Statement.{statement}
 use Rattle.text.proofs.decimal.put_whole.Tie as tie
 
-all_digits : {k : ℕ} (n : ℕ) → k ≡ length (wholeText n) → lastDigits k n ≡ wholeText n
-all_digits n e = ap (λ (i : ℕ). lastDigits i n) (e ∙ last-digits-length (width n) n)
+all_digits : {k : ℕ} (n : ℕ) → k ≡ length (whole_text n) → last_digits k n ≡ whole_text n
+all_digits n e = ap (λ (i : ℕ). last_digits i n) (e ∙ last_digits_length (width n) n)
 
 put-digits-requires : tie.Need-put-digits-requires
 put-digits-requires c κs =
@@ -21,8 +21,8 @@ returns : tie.Need-returns
 returns c =
     let put = c.before.before in
     let counted = put.before in
-    puts-as (all_digits counted.before.before.before.args.n counted.whole-len.ensures.0)
+    puts_as (all_digits counted.before.before.before.args.n counted.whole-len.ensures.0)
     put.put-digits.ensures
 
-pub put-whole-spec : {M : Type 1} → statement M
-put-whole-spec = tie.close (tie.spec (λ c κs. search rules) put-digits-requires (λ c. search rules) returns)
+pub put_whole_spec : {M : Type 1} → statement M
+put_whole_spec = tie.close (tie.spec (λ c κs. search rules) put-digits-requires (λ c. search rules) returns)

@@ -3,7 +3,7 @@ use mathlib.Core.Path.{◌≡◌}
 use Prim.Native.Nat.{◌+◌, ◌^◌, ◌≤◌, ◌<◌}
 use native.Mathlib.Omega.{arith}
 use Rattle.text.specs.Decimal.{width}
-use Rattle.text.specs.Decimal.Laws.{last-digits-length, width_small, width-more, width-le}
+use Rattle.text.specs.Decimal.Laws.{last_digits_length, width_small, width_more, width-le}
 use Rattle.text.proofs.decimal.whole_len.Statement.{statement}
 use Rattle.text.proofs.decimal.whole_len.Tie as tie
 
@@ -18,16 +18,16 @@ loop-holds c = (omega arith, omega arith, width-le 20 c.args.n (omega arith) (om
 
 loop-again : tie.Need-loop-preserved invariant-loop decreases-loop
 loop-again c =
-    let at-loop = c.before.loop in
-    (omega (arith, width-more at-loop.left at-loop.invariant.1 (omega arith)), omega arith, at-loop.invariant.2)
+    let at_loop = c.before.loop in
+    (omega (arith, width_more at_loop.left at_loop.invariant.1 (omega arith)), omega arith, at_loop.invariant.2)
 
 returns : tie.Need-returns invariant-loop decreases-loop
 returns c =
-    let digits = last-digits-length (width c.before.before.args.n) c.before.before.args.n in
+    let digits = last_digits_length (width c.before.before.args.n) c.before.before.args.n in
     let one = width_small c.before.loop.left (omega arith) in
     (omega arith, omega arith)
 
-pub whole-len-spec : {M : Type 1} → statement M
-whole-len-spec =
+pub whole_len_spec : {M : Type 1} → statement M
+whole_len_spec =
     tie.close
     (tie.spec invariant-loop decreases-loop loop-holds (λ c. omega arith) (λ c. omega arith) loop-again returns)

@@ -1,20 +1,20 @@
 -- `number::digits` meets its contract: too few or too many bytes make no number. Assumes nothing.
 use mathlib.Core.Path.{sym, ◌∙◌}
 use borrow.Author.Rules.{rules}
-use Rattle.text.specs.Number.Laws.{digits-numeral, digits-none-of-short, digits-none-of-long}
+use Rattle.text.specs.Number.Laws.{digits-numeral, digits_none_of_short, digits_none_of_long}
 use Rattle.text.proofs.number.digits.Statement.{statement}
 use Rattle.text.proofs.number.digits.Tie as tie
 
 short : tie.Need-returns
-short c = sym (digits-none-of-short _ _ c.if1.true)
+short c = sym (digits_none_of_short _ _ c.if1.true)
 
 long : tie.Need-returns-2
-long c = sym (digits-none-of-long _ _ c.before.if1.false c.if2.true)
+long c = sym (digits_none_of_long _ _ c.before.if1.false c.if2.true)
 
 numeral : tie.Need-returns-3
 numeral c =
     let fitting = c.before in
     c.value-of-digits.ensures ∙ sym (digits-numeral _ _ fitting.before.if1.false fitting.if2.false)
 
-pub digits-spec : {M : Type 1} → statement M
-digits-spec = tie.close (tie.spec short long (λ c κs. search rules) numeral)
+pub digits_spec : {M : Type 1} → statement M
+digits_spec = tie.close (tie.spec short long (λ c κs. search rules) numeral)

@@ -5,7 +5,7 @@ use mathlib.Core.Path.{sym, ap, ◌∙◌}
 use mathlib.Core.Option.{some}
 use native.Mathlib.Omega.{arith}
 use borrow.Author.Rules.{rules}
-use Rattle.text.specs.Number.Laws.{number_in, digits_lt, moved-lt, fraction-zero, fraction-is}
+use Rattle.text.specs.Number.Laws.{number_in, digits_lt, moved-lt, fraction-zero, fraction_is}
 use Rattle.text.proofs.number.fraction.Statement.{statement}
 use Rattle.text.proofs.number.fraction.Tie as tie
 
@@ -14,14 +14,14 @@ module _ (read : tie.After-digits) where
   abbrev at_part : tie.After-part-after
   at_part = read.before
 
-  abbrev at-point : tie.Then1
-  at-point = at_part.before
+  abbrev at_point : tie.Then1
+  at_point = at_part.before
 
-  abbrev at-find : tie.After-find
-  at-find = at-point.before
+  abbrev at_find : tie.After-find
+  at_find = at_point.before
 
   abbrev start : tie.Start
-  start = at-find.before.before
+  start = at_find.before.before
 
 few-places : tie.Need-overflow-sub-power
 few-places c =
@@ -39,10 +39,10 @@ product-fits c =
           c.power.ensures,
     )
 
-no-digits : tie.Need-returns
-no-digits c =
+no_digits : tie.Need-returns
+no_digits c =
     let read = c.before.before in
-    fraction-is _ _ (at-find read).find.ensures (at-point read).if1.true (at_part read).part-after.ensures
+    fraction_is _ _ (at_find read).find.ensures (at_point read).if1.true (at_part read).part-after.ensures
     read.digits.ensures
     (ap number_in c.enum_told.given.1)
 
@@ -51,15 +51,15 @@ digits c =
     let bound = c.before.before in
     let read = bound.before.before in
     ap (λ (q : ℕ). some (bound.d.given.0.0 * q)) c.power.ensures
-    ∙ fraction-is _ _ (at-find read).find.ensures (at-point read).if1.true (at_part read).part-after.ensures
+    ∙ fraction_is _ _ (at_find read).find.ensures (at_point read).if1.true (at_part read).part-after.ensures
     read.digits.ensures
     (ap number_in bound.d.given.1)
 
-no-point : tie.Need-returns-3
-no-point c = fraction-zero _ _ c.before.find.ensures c.if1.false
+no_point : tie.Need-returns-3
+no_point c = fraction-zero _ _ c.before.find.ensures c.if1.false
 
-pub fraction-spec : {M : Type 1} → statement M
-fraction-spec =
+pub fraction_spec : {M : Type 1} → statement M
+fraction_spec =
     tie.close
     (tie.spec
     (λ c κs. search rules)
@@ -70,6 +70,6 @@ fraction-spec =
     few-places
     (λ c κs. search rules)
     product-fits
-    no-digits
+    no_digits
     digits
-    no-point)
+    no_point)

@@ -21,5 +21,5 @@ table-power (suc (suc (suc (suc (suc (suc (suc n))))))) h = absurd (omega arith)
 returns : tie.Need-returns
 returns c = table-power _ c.requires
 
-pub power-spec : {M : Type 1} → statement M
-power-spec = tie.close (tie.spec (λ c. search rules) (λ c. search rules) returns)
+pub power_spec : {M : Type 1} → statement M
+power_spec = tie.close (tie.spec (λ c. search rules) (λ c. search rules) returns)

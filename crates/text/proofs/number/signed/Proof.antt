@@ -1,16 +1,16 @@
 -- `number::signed` meets its contract: the decimal stands after the minus, if there is one. Assumes nothing.
 use mathlib.Core.Path.{sym, ap, ◌∙◌}
 use borrow.Author.Rules.{rules}
-use Rattle.text.specs.Bytes.Laws.{length-le-of-starts}
+use Rattle.text.specs.Bytes.Laws.{length_le_of_starts}
 use Rattle.text.specs.Number.Laws.{number_in, signed_below, signed_above}
 use Rattle.text.proofs.number.signed.Statement.{statement}
 use Rattle.text.proofs.number.signed.Tie as tie
 
 has_one : tie.Need-overflow-sub-decimal
-has_one c = length-le-of-starts _ _ (sym c.before.starts.ensures ∙ c.if1.true)
+has_one c = length_le_of_starts _ _ (sym c.before.starts.ensures ∙ c.if1.true)
 
-starts-at-one : tie.Need-slice-bounds-decimal-start
-starts-at-one c = length-le-of-starts _ _ (sym c.before.starts.ensures ∙ c.if1.true)
+starts_at_one : tie.Need-slice-bounds-decimal-start
+starts_at_one c = length_le_of_starts _ _ (sym c.before.starts.ensures ∙ c.if1.true)
 
 -- where the decimal after a minus is read
 module _ (read : tie.After-decimal) where
@@ -32,8 +32,8 @@ below c =
     signed_below _ m.before.starts.ensures m.if1.taken read.decimal.ensures
     (ap number_in bound.m.given.1)
 
-above-none : tie.Need-returns-3
-above-none c =
+above_none : tie.Need-returns-3
+above_none c =
     let read = c.before.before in
     let no_minus = read.before in
     signed_above _ no_minus.before.starts.ensures no_minus.if1.false read.decimal2.ensures
@@ -47,14 +47,14 @@ above c =
     signed_above _ no_minus.before.starts.ensures no_minus.if1.false read.decimal2.ensures
     (ap number_in bound.m2.given.1)
 
-pub signed-spec : {M : Type 1} → statement M
-signed-spec =
+pub signed_spec : {M : Type 1} → statement M
+signed_spec =
     tie.close
     (tie.spec
     (λ c. search rules)
     (λ c κs. search rules)
     has_one
-    starts-at-one
+    starts_at_one
     (λ c. search rules)
     (λ c κs. search rules)
     (λ c. search rules)
@@ -64,5 +64,5 @@ signed-spec =
     (λ c. search rules)
     below_none
     below
-    above-none
+    above_none
     above)

@@ -6,5 +6,5 @@ use Rattle.text.proofs.number.thousandths.Tie as tie
 returns : tie.Need-returns
 returns c = c.decimal.ensures
 
-pub thousandths-spec : {M : Type 1} → statement M
-thousandths-spec = tie.close (tie.spec (λ c κs. search rules) returns)
+pub thousandths_spec : {M : Type 1} → statement M
+thousandths_spec = tie.close (tie.spec (λ c κs. search rules) returns)

@@ -6,8 +6,8 @@ use mathlib.Core.List.{List}
 use native.Mathlib.Omega.{arith}
 use lib.ListN.{length, drop}
 use Rattle.text.specs.Number.{numeral}
-use Rattle.text.specs.Number.Laws.{numeral-next, numeral-none-of-low, numeral-none-of-high, numeral-end}
-use Rattle.text.specs.Number.Laws.{digit-more, five-digits-lt}
+use Rattle.text.specs.Number.Laws.{numeral-next, numeral_none_of_low, numeral_none_of_high, numeral_end}
+use Rattle.text.specs.Number.Laws.{digit_more, five-digits-lt}
 use Rattle.text.proofs.number.value_of_digits.Statement.{statement}
 use Rattle.text.proofs.number.value_of_digits.Tie as tie
 
@@ -35,7 +35,7 @@ low c =
     let turn = c.before.before in
     let l = turn.before in
     let a = l.before.before.args in
-    sym (l.loop.invariant.goes_on ∙ numeral-none-of-low l.loop.v a.s.now l.loop.i turn.loop-test.true
+    sym (l.loop.invariant.goes_on ∙ numeral_none_of_low l.loop.v a.s.now l.loop.i turn.loop-test.true
     c.if1.true)
 
 high : tie.Need-returns-2 invariant-loop decreases-loop
@@ -45,16 +45,16 @@ high c =
     let a = l.before.before.args in
     sym
     (l.loop.inv.goes_on
-    ∙ numeral-none-of-high l.loop.v a.s.now l.loop.i (turn not_low).loop-test.true not_low.if1.false
+    ∙ numeral_none_of_high l.loop.v a.s.now l.loop.i (turn not_low).loop-test.true not_low.if1.false
     c.if2.true)
 
-mul-v : tie.Need-overflow-mul-v invariant-loop decreases-loop
-mul-v c =
+mul_v : tie.Need-overflow-mul-v invariant-loop decreases-loop
+mul_v c =
     let l = at_turn c.before in
     omega (arith, five-digits-lt l.loop.v l.loop.i l.loop.inv.small (omega arith))
 
-add-v : tie.Need-overflow-add-v invariant-loop decreases-loop
-add-v c =
+add_v : tie.Need-overflow-add-v invariant-loop decreases-loop
+add_v c =
     let l = at_turn c.before.before in
     omega (arith, five-digits-lt l.loop.v l.loop.i l.loop.inv.small (omega arith))
 
@@ -72,17 +72,17 @@ loop-again c =
           l.loop.inv.goes_on ∙ next ∙ ap
           (λ (x : ℕ). numeral (l.loop.v * 10 + x) (drop (l.loop.i + 1) a.s.now)) (sym d.ensures);
       within = omega arith;
-      small = digit-more l.loop.v d.result l.loop.i l.loop.inv.small (omega arith);
+      small = digit_more l.loop.v d.result l.loop.i l.loop.inv.small (omega arith);
     }
 
 end : tie.Need-returns-3 invariant-loop decreases-loop
 end c =
     let l = c.before in
     let a = l.before.before.args in
-    sym (l.loop.invariant.goes_on ∙ numeral-end l.loop.v a.s.now l.loop.i c.loop-test.false)
+    sym (l.loop.invariant.goes_on ∙ numeral_end l.loop.v a.s.now l.loop.i c.loop-test.false)
 
-pub value-of-digits-spec : {M : Type 1} → statement M
-value-of-digits-spec =
+pub value_of_digits_spec : {M : Type 1} → statement M
+value_of_digits_spec =
     tie.close
     (tie.spec
     invariant-loop
@@ -91,9 +91,9 @@ value-of-digits-spec =
     (λ c. omega arith)
     low
     high
-    mul-v
+    mul_v
     (λ c κs. tt)
-    add-v
+    add_v
     (λ c. omega arith)
     (λ c. omega arith)
     loop-again

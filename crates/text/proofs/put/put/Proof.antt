@@ -7,7 +7,7 @@ use native.Mathlib.Nat.{le_antisymm}
 use native.Mathlib.Numerals.{add-one}
 use lib.ListN.{length, get_or, set, length-set}
 use lib.Seq.{paste, paste-zero, paste-suc}
-use Rattle.text.specs.Put.Laws.{paste-is-put}
+use Rattle.text.specs.Put.Laws.{paste_is_put}
 use Rattle.text.proofs.put.put.Statement.{statement}
 use Rattle.text.proofs.put.put.Tie as tie
 
@@ -26,8 +26,8 @@ stored d s d₀ at j e hd hs = rw (e, add-one j) (paste-suc d₀ at s j 0 hd hs)
 loop-holds : tie.Need-loop-init invariant-loop decreases-loop
 loop-holds c = (paste-zero c.args.dst.now c.args.at c.args.src.now, omega arith, refl)
 
-shared-slice-read-dst : tie.Need-shared-slice-read-dst invariant-loop decreases-loop
-shared-slice-read-dst c = omega arith
+shared_slice_read_dst : tie.Need-shared-slice-read-dst invariant-loop decreases-loop
+shared_slice_read_dst c = omega arith
 
 add-dst : tie.Need-overflow-add-dst invariant-loop decreases-loop
 add-dst c = omega arith
@@ -35,33 +35,33 @@ add-dst c = omega arith
 slice-write-dst : tie.Need-slice-write-dst invariant-loop decreases-loop
 slice-write-dst c = omega arith
 
-add-j : tie.Need-overflow-add-j invariant-loop decreases-loop
-add-j c = omega arith
+add_j : tie.Need-overflow-add-j invariant-loop decreases-loop
+add_j c = omega arith
 
 loop-less : tie.Need-loop-smaller invariant-loop decreases-loop
 loop-less c = omega arith
 
 loop-again : tie.Need-loop-preserved invariant-loop decreases-loop
 loop-again c =
-    let at-loop = c.before.before.loop in
-    (stored _ _ _ _ _ at-loop.invariant.0 (omega arith) (omega arith), omega arith, simp length-set at-loop.invariant.2)
+    let at_loop = c.before.before.loop in
+    (stored _ _ _ _ _ at_loop.invariant.0 (omega arith) (omega arith), omega arith, simp length-set at_loop.invariant.2)
 
-add-result : tie.Need-overflow-add-result invariant-loop decreases-loop
-add-result c = omega arith
+add_result : tie.Need-overflow-add-result invariant-loop decreases-loop
+add_result c = omega arith
 
 same_length : tie.Need-same-length invariant-loop decreases-loop
 same_length c = c.before.loop.invariant.2
 
 returns : tie.Need-returns invariant-loop decreases-loop
 returns c =
-    let at-loop = c.before.loop in
+    let at_loop = c.before.loop in
     let a = c.before.before.args in
-    let all : at-loop.j ≡ length a.src.now = le_antisymm at-loop.invariant.1 c.loop-test.false in
+    let all : at_loop.j ≡ length a.src.now = le_antisymm at_loop.invariant.1 c.loop-test.false in
     record {
       end = ap (λ (k : ℕ). a.at + k) all;
       bytes =
-          at-loop.invariant.0 ∙ ap (λ (k : ℕ). paste a.dst.now a.at a.src.now k) all
-          ∙ paste-is-put a.dst.now a.at a.src.now;
+          at_loop.invariant.0 ∙ ap (λ (k : ℕ). paste a.dst.now a.at a.src.now k) all
+          ∙ paste_is_put a.dst.now a.at a.src.now;
     }
 
 pub put_spec : {M : Type 1} → statement M
@@ -71,12 +71,12 @@ put_spec =
     invariant-loop
     decreases-loop
     loop-holds
-    shared-slice-read-dst
+    shared_slice_read_dst
     add-dst
     slice-write-dst
-    add-j
+    add_j
     loop-less
     loop-again
-    add-result
+    add_result
     same_length
     returns)

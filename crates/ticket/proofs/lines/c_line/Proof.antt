@@ -2,30 +2,30 @@
 use mathlib.Core.Path.{refl, ap}
 use borrow.Author.Rules.{rules}
 use Rattle.text.specs.Number.Laws.{number_in}
-use Rattle.ticket.specs.Ticket.{cLine}
-use Rattle.ticket.specs.Ticket.Laws.{due-read, thousandths-of-nil}
+use Rattle.ticket.specs.Ticket.{c_line}
+use Rattle.ticket.specs.Ticket.Laws.{due-read, thousandths_of_nil}
 use Rattle.ticket.proofs.lines.c_line.Statement.{statement}
 use Rattle.ticket.proofs.lines.c_line.Tie as tie
 
 wrong : tie.Need-returns
-unfolding cLine
+unfolding c_line
 wrong c =
     let read = c.before.before in
-    due-read _ _ _ _ _ thousandths-of-nil read.before.value.ensures read.thousandths.ensures
+    due-read _ _ _ _ _ thousandths_of_nil read.before.value.ensures read.thousandths.ensures
     (ap number_in c.enum_told.given.1) refl refl
 
 right : tie.Need-returns-2
-unfolding cLine
+unfolding c_line
 right c =
     let rest = c.before in
     let bound = rest.before.before in
     let read = bound.before.before in
-    due-read _ _ _ _ _ thousandths-of-nil read.before.value.ensures read.thousandths.ensures
+    due-read _ _ _ _ _ thousandths_of_nil read.before.value.ensures read.thousandths.ensures
     (ap number_in bound.x.given.1)
     rest.part-after.ensures c.tol-line.ensures
 
-pub c-line-spec : {M : Type 1} → statement M
-c-line-spec =
+pub c_line_spec : {M : Type 1} → statement M
+c_line_spec =
     tie.close
     (tie.spec
     (λ c. search rules)

@@ -2,23 +2,23 @@
 use mathlib.Core.Path.{refl, ap, ◌∙◌}
 use borrow.Author.Rules.{rules}
 use Rattle.text.specs.Number.Laws.{number_in}
-use Rattle.ticket.specs.Ticket.Laws.{due-read, thousandths-of-nil, factors-missing, factors-given}
+use Rattle.ticket.specs.Ticket.Laws.{due-read, thousandths_of_nil, factors_missing, factors_given}
 use Rattle.ticket.proofs.lines.factor_lines.Statement.{statement}
 use Rattle.ticket.proofs.lines.factor_lines.Tie as tie
 
 missing : tie.Need-returns
 missing c =
     let tol = c.before in
-    c.tol-line.ensures ∙ factors-missing _ _ _ tol.before.starts.ensures tol.if1.true
+    c.tol-line.ensures ∙ factors_missing _ _ _ tol.before.starts.ensures tol.if1.true
 
 wrong : tie.Need-returns-2
 wrong c =
     let read = c.before.before in
     let at_value = read.before in
     let given = at_value.before.before in
-    due-read _ _ _ _ _ thousandths-of-nil at_value.value.ensures read.thousandths.ensures
+    due-read _ _ _ _ _ thousandths_of_nil at_value.value.ensures read.thousandths.ensures
     (ap number_in c.enum_told.given.1) refl refl
-    ∙ factors-given _ _ _ given.before.starts.ensures given.if1.false
+    ∙ factors_given _ _ _ given.before.starts.ensures given.if1.false
 
 right : tie.Need-returns-3
 right c =
@@ -27,13 +27,13 @@ right c =
     let read = bound.before.before in
     let at_value = read.before in
     let given = at_value.before.before in
-    due-read _ _ _ _ _ thousandths-of-nil at_value.value.ensures read.thousandths.ensures
+    due-read _ _ _ _ _ thousandths_of_nil at_value.value.ensures read.thousandths.ensures
     (ap number_in bound.x.given.1)
     rest.part-after.ensures c.c-line.ensures
-    ∙ factors-given _ _ _ given.before.starts.ensures given.if1.false
+    ∙ factors_given _ _ _ given.before.starts.ensures given.if1.false
 
-pub factor-lines-spec : {M : Type 1} → statement M
-factor-lines-spec =
+pub factor_lines_spec : {M : Type 1} → statement M
+factor_lines_spec =
     tie.close
     (tie.spec
     (λ c. search rules)

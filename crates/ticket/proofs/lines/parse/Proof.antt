@@ -1,21 +1,21 @@
 -- The text is too long, or its first line is wrong, or the next has what it says. Assumes nothing.
 use mathlib.Core.Path.{refl, ap, ◌∙◌}
 use borrow.Author.Rules.{rules}
-use Rattle.ticket.specs.Ticket.Laws.{formulaIn, due-read, formula-of-nil, ticket-of-long, ticket-of-short}
+use Rattle.ticket.specs.Ticket.Laws.{formula_in, due-read, formula_of_nil, ticket_of_long, ticket_of_short}
 use Rattle.ticket.proofs.lines.parse.Statement.{statement}
 use Rattle.ticket.proofs.lines.parse.Tie as tie
 
 long : tie.Need-returns
-long c = ticket-of-long _ c.if1.true
+long c = ticket_of_long _ c.if1.true
 
 wrong : tie.Need-returns-2
 wrong c =
     let read = c.before.before in
     let at_value = read.before in
     let short = at_value.before.before in
-    due-read _ _ _ _ _ formula-of-nil at_value.value.ensures read.formula-named.ensures
-    (ap formulaIn c.enum_told.given.1) refl refl
-    ∙ ticket-of-short _ short.if1.false
+    due-read _ _ _ _ _ formula_of_nil at_value.value.ensures read.formula-named.ensures
+    (ap formula_in c.enum_told.given.1) refl refl
+    ∙ ticket_of_short _ short.if1.false
 
 right : tie.Need-returns-3
 right c =
@@ -24,13 +24,13 @@ right c =
     let read = bound.before.before in
     let at_value = read.before in
     let short = at_value.before.before in
-    due-read _ _ _ _ _ formula-of-nil at_value.value.ensures read.formula-named.ensures
-    (ap formulaIn bound.x.given.1)
+    due-read _ _ _ _ _ formula_of_nil at_value.value.ensures read.formula-named.ensures
+    (ap formula_in bound.x.given.1)
     rest.part-after.ensures c.white-line.ensures
-    ∙ ticket-of-short _ short.if1.false
+    ∙ ticket_of_short _ short.if1.false
 
-pub parse-spec : {M : Type 1} → statement M
-parse-spec =
+pub parse_spec : {M : Type 1} → statement M
+parse_spec =
     tie.close
     (tie.spec
     long

@@ -2,24 +2,24 @@
 use mathlib.Core.Path.{sym, ◌∙◌}
 use lib.Seq.{length-take-le}
 use borrow.Author.Rules.{rules}
-use Rattle.text.specs.Bytes.Laws.{take-before, length-le-of-starts}
-use Rattle.ticket.specs.Ticket.Laws.{value-nil-of-no-line, value-nil-of-key, drop-key-value}
+use Rattle.text.specs.Bytes.Laws.{take_before, length_le_of_starts}
+use Rattle.ticket.specs.Ticket.Laws.{value_nil_of_no_line, value_nil_of_key, drop_key_value}
 use Rattle.ticket.proofs.lines.value.Statement.{statement}
 use Rattle.ticket.proofs.lines.value.Tie as tie
 
 no_line : tie.Need-returns
 no_line c =
     let short = c.before in
-    value-nil-of-no-line _ _ short.before.find.ensures short.if1.true
+    value_nil_of_no_line _ _ short.before.find.ensures short.if1.true
 
 slice-aggregate-line : tie.Need-slice-aggregate-line
 slice-aggregate-line c = sym (length-take-le _ _ c.before.before.find.ensures.within)
 
-sub-result : tie.Need-overflow-sub-result
-sub-result c = length-le-of-starts _ _ (sym c.before.starts.ensures ∙ c.if2.true)
+sub_result : tie.Need-overflow-sub-result
+sub_result c = length_le_of_starts _ _ (sym c.before.starts.ensures ∙ c.if2.true)
 
-part-result-start : tie.Need-slice-bounds-result-start
-part-result-start c = length-le-of-starts _ _ (sym c.before.starts.ensures ∙ c.if2.true)
+part_result_start : tie.Need-slice-bounds-result-start
+part_result_start c = length_le_of_starts _ _ (sym c.before.starts.ensures ∙ c.if2.true)
 
 keyed : tie.Need-returns-2
 keyed c =
@@ -27,7 +27,7 @@ keyed c =
     let at = key.before in
     let line = at.before.before in
     let f = line.before.find.ensures in
-    drop-key-value _ _ f line.if1.false (take-before _ _ f) (sym at.starts.ensures ∙ key.if2.true)
+    drop_key_value _ _ f line.if1.false (take_before _ _ f) (sym at.starts.ensures ∙ key.if2.true)
 
 other_key : tie.Need-returns-3
 other_key c =
@@ -35,7 +35,7 @@ other_key c =
     let at = key.before in
     let line = at.before.before in
     let f = line.before.find.ensures in
-    value-nil-of-key _ _ f line.if1.false (take-before _ _ f) (sym at.starts.ensures ∙ key.if2.false)
+    value_nil_of_key _ _ f line.if1.false (take_before _ _ f) (sym at.starts.ensures ∙ key.if2.false)
 
 pub value_spec : {M : Type 1} → statement M
 value_spec =
@@ -46,8 +46,8 @@ value_spec =
     no_line
     slice-aggregate-line
     (λ c κs. search rules)
-    sub-result
-    part-result-start
+    sub_result
+    part_result_start
     (λ c. search rules)
     (λ c. search rules)
     keyed

@@ -1,30 +1,30 @@
 -- The line is wrong, or the next has what it says. Assumes nothing.
 use mathlib.Core.Path.{refl, ap}
 use borrow.Author.Rules.{rules}
-use Rattle.ticket.specs.Ticket.{whiteLine}
-use Rattle.ticket.specs.Ticket.Laws.{whiteIn, due-read, white-of-nil}
+use Rattle.ticket.specs.Ticket.{white_line}
+use Rattle.ticket.specs.Ticket.Laws.{white_in, due-read, white_of_nil}
 use Rattle.ticket.proofs.lines.white_line.Statement.{statement}
 use Rattle.ticket.proofs.lines.white_line.Tie as tie
 
 wrong : tie.Need-returns
-unfolding whiteLine
+unfolding white_line
 wrong c =
     let read = c.before.before in
-    due-read _ _ _ _ _ white-of-nil read.before.value.ensures read.white-named.ensures
-    (ap whiteIn c.enum_told.given.1) refl refl
+    due-read _ _ _ _ _ white_of_nil read.before.value.ensures read.white-named.ensures
+    (ap white_in c.enum_told.given.1) refl refl
 
 right : tie.Need-returns-2
-unfolding whiteLine
+unfolding white_line
 right c =
     let rest = c.before in
     let bound = rest.before.before in
     let read = bound.before.before in
-    due-read _ _ _ _ _ white-of-nil read.before.value.ensures read.white-named.ensures
-    (ap whiteIn bound.x.given.1)
+    due-read _ _ _ _ _ white_of_nil read.before.value.ensures read.white-named.ensures
+    (ap white_in bound.x.given.1)
     rest.part-after.ensures c.factor-lines.ensures
 
-pub white-line-spec : {M : Type 1} → statement M
-white-line-spec =
+pub white_line_spec : {M : Type 1} → statement M
+white_line_spec =
     tie.close
     (tie.spec
     (λ c. search rules)

@@ -4,9 +4,9 @@ use mathlib.Core.List.{List, [], ◌∷◌}
 use Prim.Native.Nat.{ℕ}
 use borrow.Author.Rules.{rules}
 use Rattle.sheet.specs.declared.formula.Formula.TheVariants.{CIE94, CMC}
-use Rattle.text.specs.Names.{formulaName}
-use Rattle.ticket.specs.Ticket.{named, formulaNamed}
-use Rattle.ticket.specs.Ticket.Laws.{named_none, named-first, named_other}
+use Rattle.text.specs.Names.{formula_name}
+use Rattle.ticket.specs.Ticket.{named, formula_named}
+use Rattle.ticket.specs.Ticket.Laws.{named_none, named_first, named_other}
 use Rattle.ticket.proofs.value.formula_named.Statement.{statement}
 use Rattle.ticket.proofs.value.formula_named.Tie as tie
 
@@ -14,32 +14,32 @@ module _ (c : tie.Else1) where
   abbrev s : List ℕ
   s = c.before.before.before.before.args.s.now
 
-  not_first : named formulaName (CIE94 ∷ CMC ∷ []) s ≡ formulaNamed s
+  not_first : named formula_name (CIE94 ∷ CMC ∷ []) s ≡ formula_named s
   not_first = named_other _ _ _ _ c.before.same.ensures c.if1.false
 
 module _ (c : tie.Else2) where
   abbrev s2 : List ℕ
   s2 = s c.before.before.before
 
-  not-second : named formulaName (CMC ∷ []) s2 ≡ formulaNamed s2
-  not-second = named_other _ _ _ _ c.before.same2.ensures c.if2.false ∙ not_first c.before.before.before
+  not_second : named formula_name (CMC ∷ []) s2 ≡ formula_named s2
+  not_second = named_other _ _ _ _ c.before.same2.ensures c.if2.false ∙ not_first c.before.before.before
 
 cielab : tie.Need-returns
-cielab c = named-first _ _ _ _ c.before.same.ensures c.if1.true
+cielab c = named_first _ _ _ _ c.before.same.ensures c.if1.true
 
 cie94 : tie.Need-returns-2
-cie94 c = named-first _ _ _ _ c.before.same2.ensures c.if2.true ∙ not_first c.before.before.before
+cie94 c = named_first _ _ _ _ c.before.same2.ensures c.if2.true ∙ not_first c.before.before.before
 
 cmc : tie.Need-returns-3
-cmc c = named-first _ _ _ _ c.before.same3.ensures c.if3.true ∙ not-second c.before.before.before
+cmc c = named_first _ _ _ _ c.before.same3.ensures c.if3.true ∙ not_second c.before.before.before
 
 no_name : tie.Need-returns-4
 no_name c =
     named_none _ _ ∙ named_other _ _ _ _ c.before.same3.ensures c.if3.false
-    ∙ not-second c.before.before.before
+    ∙ not_second c.before.before.before
 
-pub formula-named-spec : {M : Type 1} → statement M
-formula-named-spec =
+pub formula_named_spec : {M : Type 1} → statement M
+formula_named_spec =
     tie.close
     (tie.spec
     (λ c. search rules)

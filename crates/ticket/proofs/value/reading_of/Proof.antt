@@ -1,7 +1,7 @@
 -- `value::reading_of` meets its contract: the two spaces part the text into three. Assumes nothing.
 use mathlib.Core.Path.{◌∙◌}
 use borrow.Author.Rules.{rules}
-use Rattle.ticket.specs.Ticket.Laws.{reading-is}
+use Rattle.ticket.specs.Ticket.Laws.{reading_is}
 use Rattle.ticket.proofs.value.reading_of.Statement.{statement}
 use Rattle.ticket.proofs.value.reading_of.Tie as tie
 
@@ -14,11 +14,11 @@ reading c =
     let x = second.before in
     let first = x.before in
     c.together.ensures
-    ∙ reading-is _ _ first.before.part-after.ensures first.part-before.ensures x.signed.ensures
+    ∙ reading_is _ _ first.before.part-after.ensures first.part-before.ensures x.signed.ensures
     second.part-before2.ensures y.signed2.ensures third.part-after2.ensures z.signed3.ensures
 
-pub reading-of-spec : {M : Type 1} → statement M
-reading-of-spec =
+pub reading_of_spec : {M : Type 1} → statement M
+reading_of_spec =
     tie.close
     (tie.spec
     (λ c κs. search rules)

@@ -4,8 +4,8 @@ use mathlib.Core.List.{List, [], ◌∷◌}
 use Prim.Native.Nat.{ℕ}
 use borrow.Author.Rules.{rules}
 use Rattle.ticket.specs.declared.value.Space.TheVariants.{Lab}
-use Rattle.ticket.specs.Ticket.{named, spaceName, spaceNamed}
-use Rattle.ticket.specs.Ticket.Laws.{named_none, named-first, named_other}
+use Rattle.ticket.specs.Ticket.{named, space_name, space_named}
+use Rattle.ticket.specs.Ticket.Laws.{named_none, named_first, named_other}
 use Rattle.ticket.proofs.value.space_named.Statement.{statement}
 use Rattle.ticket.proofs.value.space_named.Tie as tie
 
@@ -13,22 +13,22 @@ module _ (c : tie.Else1) where
   abbrev s : List ℕ
   s = c.before.before.before.before.args.s.now
 
-  not_first : named spaceName (Lab ∷ []) s ≡ spaceNamed s
+  not_first : named space_name (Lab ∷ []) s ≡ space_named s
   not_first = named_other _ _ _ _ c.before.same.ensures c.if1.false
 
 xyz : tie.Need-returns
-xyz c = named-first _ _ _ _ c.before.same.ensures c.if1.true
+xyz c = named_first _ _ _ _ c.before.same.ensures c.if1.true
 
 lab : tie.Need-returns-2
-lab c = named-first _ _ _ _ c.before.same2.ensures c.if2.true ∙ not_first c.before.before.before
+lab c = named_first _ _ _ _ c.before.same2.ensures c.if2.true ∙ not_first c.before.before.before
 
 no_name : tie.Need-returns-3
 no_name c =
     named_none _ _ ∙ named_other _ _ _ _ c.before.same2.ensures c.if2.false
     ∙ not_first c.before.before.before
 
-pub space-named-spec : {M : Type 1} → statement M
-space-named-spec =
+pub space_named_spec : {M : Type 1} → statement M
+space_named_spec =
     tie.close
     (tie.spec
     (λ c. search rules)

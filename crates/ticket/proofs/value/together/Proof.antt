@@ -5,15 +5,15 @@ use borrow.Author.Rules.{rules}
 use Rattle.reading.specs.declared.decimal.Decimal.{Decimal}
 use Rattle.colour.specs.declared.placed.Written.{Written}
 use Rattle.ticket.specs.declared.value.Space.{Space}
-use Rattle.text.specs.Number.Laws.{signedIn}
-use Rattle.ticket.specs.Ticket.{inSpace, three}
+use Rattle.text.specs.Number.Laws.{signed_in}
+use Rattle.ticket.specs.Ticket.{in_space, three}
 use Rattle.ticket.proofs.value.together.Statement.{statement}
 use Rattle.ticket.proofs.value.together.Tie as tie
 
 all_three :
     (space : Space) {p q r : Option Decimal} {x y z : Decimal} {w : Written}
-    → p ≡ some x → q ≡ some y → r ≡ some z → w ≡ inSpace space x y z
-    → some w ≡ three (inSpace space) p q r
+    → p ≡ some x → q ≡ some y → r ≡ some z → w ≡ in_space space x y z
+    → some w ≡ three (in_space space) p q r
 all_three space ep eq er ew = rw (ep, eq, er, ew)
 
 read : tie.Need-returns-4
@@ -23,11 +23,11 @@ read c =
     let y = second.before in
     let first = y.before.before in
     let x = first.before in
-    all_three _ (ap signedIn x.p.given.1) (ap signedIn y.q.given.1) (ap signedIn z.r.given.1)
+    all_three _ (ap signed_in x.p.given.1) (ap signed_in y.q.given.1) (ap signed_in z.r.given.1)
     c.in-space.ensures
 
-pub together-spec : {M : Type 1} → statement M
-together-spec =
+pub together_spec : {M : Type 1} → statement M
+together_spec =
     tie.close
     (tie.spec
     (λ c. search rules)

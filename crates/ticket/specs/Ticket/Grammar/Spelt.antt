@@ -7,14 +7,14 @@ use mathlib.Core.List.{List, [], ◌∷◌, ◌++◌, append_assoc}
 use Rattle.std.proofs.Math.Option.{Option, none, some}
 use Rattle.text.specs.Bytes.{has, before, after, starts_with}
 use Rattle.text.specs.Bytes.Parts.{parted, starts_is}
-use Rattle.text.specs.Number.{thousandthsOf}
+use Rattle.text.specs.Number.{thousandths_of}
 use Rattle.text.specs.Put.{line}
 use Rattle.colour.specs.declared.placed.Written.{Written}
 use Rattle.sheet.specs.declared.settings.Settings.{Settings}
-use Rattle.ticket.specs.Ticket.{spaceNamed, space_of, reading_of, orWrong, due, nothingMore, testLine, refLine}
-use Rattle.ticket.specs.Ticket.{spaceLine, tolLine, filled}
+use Rattle.ticket.specs.Ticket.{space_named, space_of, reading_of, or_wrong, due, nothing_more, test_line, ref_line}
+use Rattle.ticket.specs.Ticket.{space_line, tol_line, filled}
 use Rattle.ticket.specs.Ticket.Grammar.{Place, key, Reads, Says}
-use Rattle.ticket.specs.Ticket.Grammar.Values.{reads_of, space-of-reads, own-space}
+use Rattle.ticket.specs.Ticket.Grammar.Values.{reads_of, space_of_reads, own_space}
 use Rattle.ticket.specs.declared.value.Space.{Space}
 use Rattle.ticket.specs.declared.lines.Ticket.{Ticket}
 use Rattle.ticket.specs.declared.lines.Parsed.{Parsed}
@@ -23,8 +23,8 @@ use Rattle.ticket.specs.declared.lines.Parsed.TheVariants.{Right, Wrong}
 pub wrong-right : {n : ℕ} {t : Ticket} → Wrong n ≡ Right t → ⊥
 wrong-right e = let z : ◌≡◌ {A = ℕ} 0 1 = cc in omega arith
 
-right-injective : {t u : Ticket} → Right t ≡ Right u → t ≡ u
-right-injective e = cc
+right_injective : {t u : Ticket} → Right t ≡ Right u → t ≡ u
+right_injective e = cc
 
 -- ---- a line that was due and right, and what was made of the rest
 
@@ -52,7 +52,7 @@ module _ {A : Type 0} (n : ℕ) (p : Place) (value : List ℕ → Option A) (nex
   read_by :
       {t : Ticket} (h : Bool) → has 10 r ≡ h → (k : Bool) → starts_with (key p) (before 10 r) ≡ k
       → (o : Option A) → value v ≡ o
-      → cond (h && k) (orWrong n o (λ x. next x (after 10 r))) (Wrong n) ≡ Right t → Read p value next r t
+      → cond (h && k) (or_wrong n o (λ x. next x (after 10 r))) (Wrong n) ≡ Right t → Read p value next r t
   read_by false h k ek o eo e = absurd (wrong-right e)
   read_by true h false ek o eo e = absurd (wrong-right e)
   read_by true h true ek none eo e = absurd (wrong-right e)
@@ -70,45 +70,45 @@ abbrev pub Spelt : Ticket → List Place → List ℕ → Type 0
 Spelt t [] r = r ≡ []
 Spelt t (p ∷ ps) r = (v : List ℕ) × (rest : List ℕ) × (r ≡ line (key p) v ++ rest) × Says t p v × Spelt t ps rest
 
-nothing-more : (n : ℕ) (u t : Ticket) (r : List ℕ) → nothingMore n u r ≡ Right t → (r ≡ []) × (u ≡ t)
-unfolding nothingMore
-nothing-more n u t [] e = (refl, right-injective e)
-nothing-more n u t (x ∷ r) e = absurd (wrong-right e)
+nothing_more_lem : (n : ℕ) (u t : Ticket) (r : List ℕ) → nothing_more n u r ≡ Right t → (r ≡ []) × (u ≡ t)
+unfolding nothing_more
+nothing_more_lem n u t [] e = (refl, right_injective e)
+nothing_more_lem n u t (x ∷ r) e = absurd (wrong-right e)
 
-abbrev pub fromTol : List Place
-fromTol = Place.tol ∷ Place.space ∷ Place.ref ∷ Place.test ∷ []
+abbrev pub from_tol : List Place
+from_tol = Place.tol ∷ Place.space ∷ Place.ref ∷ Place.test ∷ []
 
 module _ (t : Ticket) where
-  test-spelt :
-      (n : ℕ) (p : Settings) (q : Space) (u : Written) (r : List ℕ) → space_of u ≡ q → testLine n p q u r ≡ Right t
+  test_spelt :
+      (n : ℕ) (p : Settings) (q : Space) (u : Written) (r : List ℕ) → space_of u ≡ q → test_line n p q u r ≡ Right t
       → (t.settings ≡ p) × (t.reference ≡ u) × Spelt t (Place.test ∷ []) r
-  unfolding testLine
-  test-spelt n p q u r h e =
+  unfolding test_line
+  test_spelt n p q u r h e =
       let a = read n Place.test (reading_of q) _ r e in
       let k = subst (λ (w : Space). Reads w a.said a.what) (sym h) (reads_of q a.said a.says) in
       let found : Ticket = record { settings = p; reference = u; test = a.what } in
-      let end = nothing-more (n + 1) found t a.rest a.after-it in
+      let end = nothing_more_lem (n + 1) found t a.rest a.after-it in
       subst (λ (w : Ticket). (w.settings ≡ p) × (w.reference ≡ u) × Spelt w (Place.test ∷ []) r) end.1
       (refl, refl, (a.said, a.rest, a.text, k, end.0))
 
-  ref-spelt :
-      (n : ℕ) (p : Settings) (q : Space) (r : List ℕ) → refLine n p q r ≡ Right t
+  ref_spelt :
+      (n : ℕ) (p : Settings) (q : Space) (r : List ℕ) → ref_line n p q r ≡ Right t
       → (t.settings ≡ p) × (space_of t.reference ≡ q) × Spelt t (Place.ref ∷ Place.test ∷ []) r
-  unfolding refLine
-  ref-spelt n p q r e =
+  unfolding ref_line
+  ref_spelt n p q r e =
       let a = read n Place.ref (reading_of q) _ r e in
       let k = reads_of q a.said a.says in
-      let b = test-spelt (n + 1) p q a.what a.rest (space-of-reads k) a.after-it in
-      let own = subst (λ (w : Written). Reads (space_of w) a.said w) (sym b.1) (own-space k) in
-      (b.0, ap space_of b.1 ∙ space-of-reads k, (a.said, a.rest, a.text, own, b.2))
+      let b = test_spelt (n + 1) p q a.what a.rest (space_of_reads k) a.after-it in
+      let own = subst (λ (w : Written). Reads (space_of w) a.said w) (sym b.1) (own_space k) in
+      (b.0, ap space_of b.1 ∙ space_of_reads k, (a.said, a.rest, a.text, own, b.2))
 
-  space-spelt :
-      (n : ℕ) (p : Settings) (r : List ℕ) → spaceLine n p r ≡ Right t
+  space_spelt :
+      (n : ℕ) (p : Settings) (r : List ℕ) → space_line n p r ≡ Right t
       → (t.settings ≡ p) × Spelt t (Place.space ∷ Place.ref ∷ Place.test ∷ []) r
-  unfolding spaceLine
-  space-spelt n p r e =
-      let a = read n Place.space spaceNamed _ r e in
-      let b = ref-spelt (n + 1) p a.what a.rest a.after-it in
+  unfolding space_line
+  space_spelt n p r e =
+      let a = read n Place.space space_named _ r e in
+      let b = ref_spelt (n + 1) p a.what a.rest a.after-it in
       (b.0, (a.said, a.rest, a.text, a.says ∙ ap some (sym b.1), b.2))
 
   -- all but the tolerance
@@ -118,11 +118,11 @@ module _ (t : Ticket) where
     pub l : t.settings.l ≡ p.l
     pub c : t.settings.c ≡ p.c
 
-  pub tol-spelt : (n : ℕ) (p : Settings) (r : List ℕ) → tolLine n p r ≡ Right t → Kept p × Spelt t fromTol r
-  unfolding tolLine
-  tol-spelt n p r e =
-      let a = read n Place.tol thousandthsOf _ r e in
-      let b = space-spelt (n + 1) (filled p p.l p.c a.what) a.rest a.after-it in
+  pub tol_spelt : (n : ℕ) (p : Settings) (r : List ℕ) → tol_line n p r ≡ Right t → Kept p × Spelt t from_tol r
+  unfolding tol_line
+  tol_spelt n p r e =
+      let a = read n Place.tol thousandths_of _ r e in
+      let b = space_spelt (n + 1) (filled p p.l p.c a.what) a.rest a.after-it in
       let kept : Kept p =
       record {
         formula = ap (λ (u : Settings). u.formula) b.0;

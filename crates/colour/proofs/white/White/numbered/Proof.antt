@@ -1,28 +1,28 @@
 -- `White::numbered` meets its contract: each arm is the number of a white, and the last none of them. Assumes nothing.
 use mathlib.Core.Path.{sym, ap}
 use borrow.Author.Tests.{ne_eqb}
-use Rattle.colour.specs.White.{whiteNumbered}
+use Rattle.colour.specs.White.{white_numbered}
 use Rattle.colour.proofs.white.White.numbered.Statement.{statement}
 use Rattle.colour.proofs.white.White.numbered.Tie as tie
 
 one : tie.Need-returns
-unfolding whiteNumbered
-one c = sym (ap whiteNumbered c.match.keys1)
+unfolding white_numbered
+one c = sym (ap white_numbered c.match.keys1)
 
 two : tie.Need-returns-2
-unfolding whiteNumbered
-two c = sym (ap whiteNumbered c.match.keys2)
+unfolding white_numbered
+two c = sym (ap white_numbered c.match.keys2)
 
 three : tie.Need-returns-3
-unfolding whiteNumbered
-three c = sym (ap whiteNumbered c.match.keys3)
+unfolding white_numbered
+three c = sym (ap white_numbered c.match.keys3)
 
 four : tie.Need-returns-4
-unfolding whiteNumbered
-four c = sym (ap whiteNumbered c.match.keys4)
+unfolding white_numbered
+four c = sym (ap white_numbered c.match.keys4)
 
 none : tie.Need-returns-5
-unfolding whiteNumbered
+unfolding white_numbered
 none c =
     let n = c.before.args.n in
     let others = c.match.rest in
@@ -33,5 +33,5 @@ none c =
       ne_eqb n 4 others.1,
     )
 
-pub numbered-spec : {M : Type 1} → statement M
-numbered-spec = tie.close (tie.spec one two three four none)
+pub numbered_spec : {M : Type 1} → statement M
+numbered_spec = tie.close (tie.spec one two three four none)

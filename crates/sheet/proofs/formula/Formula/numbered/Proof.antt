@@ -2,28 +2,28 @@
 -- Assumes nothing.
 use mathlib.Core.Path.{sym, ap}
 use borrow.Author.Tests.{ne_eqb}
-use Rattle.sheet.specs.Settings.{formulaNumbered}
+use Rattle.sheet.specs.Settings.{formula_numbered}
 use Rattle.sheet.proofs.formula.Formula.numbered.Statement.{statement}
 use Rattle.sheet.proofs.formula.Formula.numbered.Tie as tie
 
 one : tie.Need-returns
-unfolding formulaNumbered
-one c = sym (ap formulaNumbered c.match.keys1)
+unfolding formula_numbered
+one c = sym (ap formula_numbered c.match.keys1)
 
 two : tie.Need-returns-2
-unfolding formulaNumbered
-two c = sym (ap formulaNumbered c.match.keys2)
+unfolding formula_numbered
+two c = sym (ap formula_numbered c.match.keys2)
 
 three : tie.Need-returns-3
-unfolding formulaNumbered
-three c = sym (ap formulaNumbered c.match.keys3)
+unfolding formula_numbered
+three c = sym (ap formula_numbered c.match.keys3)
 
 none : tie.Need-returns-4
-unfolding formulaNumbered
+unfolding formula_numbered
 none c =
     let n = c.before.args.n in
     let others = c.match.rest in
     simp (ne_eqb n 1 others.0.0.1, ne_eqb n 2 others.0.1, ne_eqb n 3 others.1)
 
-pub numbered-spec : {M : Type 1} → statement M
-numbered-spec = tie.close (tie.spec one two three none)
+pub numbered_spec : {M : Type 1} → statement M
+numbered_spec = tie.close (tie.spec one two three none)

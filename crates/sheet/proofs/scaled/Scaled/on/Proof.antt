@@ -3,8 +3,8 @@ use borrow.Author.Rules.{rules}
 use Rattle.sheet.proofs.scaled.Scaled.on.Statement.{statement}
 use Rattle.sheet.proofs.scaled.Scaled.on.Tie as tie
 
-pub on-spec : {M : Type 1} → statement M
-on-spec =
+pub on_spec : {M : Type 1} → statement M
+on_spec =
     tie.close
     (tie.spec
     (λ c. search rules)
