@@ -42,7 +42,7 @@ pub fn line_of(p: Parsed) -> u32
 }
 
 // What a ticket hands back: a judgement's answer, and the number of the first wrong line, 0 for all refusals but 7.
-#[derive(Drop)]
+#[derive(Clone, Copy)]
 pub struct TicketAnswer {
     pub line: u32,
     pub answer: SpecimenAnswer,

@@ -11,7 +11,7 @@ use rounding::roots::cube_root;
 use rounding::signed::{less, product};
 
 // A colour in units of the grid.
-#[derive(Drop)]
+#[derive(Clone, Copy)]
 pub struct GridColour {
     pub L: Grid,
     pub a: Grid,

@@ -14,21 +14,21 @@ use reading::quantity::{Quantity, Units};
 use rounding::signed::magnitude;
 
 // Tristimulus values, or coordinates L*, a*, b*.
-#[derive(Drop)]
+#[derive(Clone, Copy)]
 pub enum Reading {
     Xyz(f64, f64, f64),
     Lab(f64, f64, f64),
 }
 
 // The same, written in decimals.
-#[derive(Drop)]
+#[derive(Clone, Copy)]
 pub enum Written {
     Xyz(Decimal, Decimal, Decimal),
     Lab(Decimal, Decimal, Decimal),
 }
 
 // Where a reading lies, or its refusal's number.
-#[derive(Drop)]
+#[derive(Clone, Copy)]
 pub enum Placed {
     At(GridColour),
     Refused(u32),

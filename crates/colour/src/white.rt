@@ -4,7 +4,7 @@ ghost use Rattle.colour.specs.White.{white_of, number_of_white, white_numbered};
 ghost use Rattle.colour.specs.declared.white.White.{White};
 
 // Tristimulus values, of a specimen or of a white, in millionths.
-#[derive(Drop)]
+#[derive(Clone, Copy)]
 pub struct TristimulusValues {
     pub X: u64,
     pub Y: u64,
@@ -12,7 +12,7 @@ pub struct TristimulusValues {
 }
 
 // An illuminant with its observer, of 10 or of 2 degrees.
-#[derive(Drop)]
+#[derive(Clone, Copy)]
 pub enum White {
     D65Ten,
     D65Two,
@@ -21,7 +21,7 @@ pub enum White {
 }
 
 // What a white's number names.
-#[derive(Drop)]
+#[derive(Clone, Copy)]
 pub enum Numbered {
     Is(White),
     Unknown,

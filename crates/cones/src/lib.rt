@@ -9,7 +9,7 @@ use colour::white::White;
 use reading::grid::Grid;
 
 // What the three slices hold: X, Y and Z, or L*, a* and b*.
-#[derive(Drop)]
+#[derive(Clone, Copy)]
 pub enum Kind {
     Xyz,
     Lab,

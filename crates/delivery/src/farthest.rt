@@ -15,7 +15,7 @@ use reading::grid::Grid;
 use sheet::formula::Formula;
 
 // The farthest cone so far: its DE in units, and its number.
-#[derive(Drop)]
+#[derive(Clone, Copy)]
 pub struct Far {
     pub most: u64,
     pub at: u32,

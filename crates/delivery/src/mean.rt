@@ -12,7 +12,7 @@ use reading::grid::Grid;
 use rounding::nearest::mean_of;
 
 // The sums of L*, a* and b*, in units of the grid.
-#[derive(Drop)]
+#[derive(Clone, Copy)]
 pub struct Sums {
     pub L: i64,
     pub a: i64,
@@ -20,7 +20,7 @@ pub struct Sums {
 }
 
 // The sums of all cones, or a refusal's number and the refused cone.
-#[derive(Drop)]
+#[derive(Clone, Copy)]
 pub enum Summed {
     Of(Sums),
     Refused(u32, u32),

@@ -12,7 +12,7 @@ use sheet::settings::is_factor;
 // What a sort hands back: its refusal's number or 0, the refused cone, the mean's L*, a*, b*, the farthest cone and the
 // count.
 #[repr(C)]
-#[derive(Drop)]
+#[derive(Clone, Copy)]
 pub struct Sorted {
     pub number: u32,
     pub cone: u32,

@@ -9,14 +9,14 @@ use rounding::signed::magnitude;
 use sheet::formula::Formula;
 use sheet::shift::same_hue;
 
-#[derive(Drop)]
+#[derive(Clone, Copy)]
 pub enum Lightness {
     Lighter,
     Darker,
     Equal,
 }
 
-#[derive(Drop)]
+#[derive(Clone, Copy)]
 pub enum Chroma {
     More,
     Less,
@@ -24,7 +24,7 @@ pub enum Chroma {
 }
 
 // The four axes of hue, at 0, 90, 180 and 270 degrees.
-#[derive(Drop)]
+#[derive(Clone, Copy)]
 pub enum Axis {
     Redder,
     Yellower,
@@ -32,7 +32,7 @@ pub enum Axis {
     Bluer,
 }
 
-#[derive(Drop)]
+#[derive(Clone, Copy)]
 pub enum Hue {
     Equal,
     // The name, and the bracket.

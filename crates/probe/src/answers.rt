@@ -18,7 +18,7 @@ use standard::figures::{Named, SpecimenAnswer};
 
 // A load's answer: its refusal number or 0, then the reference's figures.
 #[repr(C)]
-#[derive(Drop)]
+#[derive(Clone, Copy)]
 pub struct Reference {
     pub number: u32,
     pub lightness: f64,
@@ -32,7 +32,7 @@ pub struct Reference {
 
 // Names and the verdict, each counted from 1 in the order of SCOPE 6.4 and 7; 0 is none.
 #[repr(C)]
-#[derive(Drop)]
+#[derive(Clone, Copy)]
 pub struct Words {
     pub lightness: u32,
     pub chroma: u32,
@@ -43,7 +43,7 @@ pub struct Words {
 
 // A judgement's or a ticket's: the test specimen's figures, its names and the verdict.
 #[repr(C)]
-#[derive(Drop)]
+#[derive(Clone, Copy)]
 pub struct Specimen {
     pub number: u32,
     pub lightness: f64,

@@ -3,7 +3,7 @@ ghost use Rattle.std.specs.Prelude.{◌≡◌};
 ghost use Rattle.sheet.specs.Settings.{number_of_formula, formula_numbered};
 ghost use Rattle.sheet.specs.Sheet.{factor_under};
 
-#[derive(Drop)]
+#[derive(Clone, Copy)]
 pub enum Formula {
     CIELAB,
     CIE94,
@@ -11,7 +11,7 @@ pub enum Formula {
 }
 
 // What a formula's number names.
-#[derive(Drop)]
+#[derive(Clone, Copy)]
 pub enum NumberedFormula {
     Is(Formula),
     Unknown,

@@ -8,17 +8,17 @@ use crate::verdict::{Verdict, compare};
 use reading::grid::Grid;
 
 // Thousandths of a grid unit: a difference in whole units and a tolerance in whole thousandths are both exact in these.
-#[derive(Drop)]
+#[derive(Clone, Copy)]
 pub struct Cielab(pub u64);
 
-#[derive(Drop)]
+#[derive(Clone, Copy)]
 pub struct Cie94(pub u64);
 
-#[derive(Drop)]
+#[derive(Clone, Copy)]
 pub struct Cmc(pub u64);
 
 // On one of the three scales, where the formula is known only when it is met.
-#[derive(Drop)]
+#[derive(Clone, Copy)]
 pub enum Scaled {
     Cielab(Cielab),
     Cie94(Cie94),

@@ -6,7 +6,7 @@ use crate::formula::Formula;
 use colour::white::White;
 
 // Formula and white, and l, c and the tolerance in thousandths, as a load or a ticket gives them.
-#[derive(Drop)]
+#[derive(Clone, Copy)]
 pub struct Settings {
     pub formula: Formula,
     pub white: White,

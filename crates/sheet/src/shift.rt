@@ -3,7 +3,7 @@ ghost use Rattle.std.specs.Prelude.{◌≡◌};
 ghost use Rattle.sheet.specs.Sheet.{same_hue};
 
 // ΔL, ΔC and ΔH, in units of 2^-20.
-#[derive(Drop)]
+#[derive(Clone, Copy)]
 pub struct Shift {
     pub L: i64,
     pub C: i64,

@@ -5,7 +5,7 @@ ghost use Rattle.sheet.specs.Sheet.{change, compared};
 
 use reading::grid::Grid;
 
-#[derive(Drop)]
+#[derive(Clone, Copy)]
 pub enum Verdict {
     Near,
     Pass,

@@ -12,21 +12,21 @@ use sheet::settings::{Settings, is_factor, is_tolerance};
 
 // What judgements go by, the reference on the grid. Nothing that is worked out from these is kept, so that nothing kept
 // can be stale.
-#[derive(Drop)]
+#[derive(Clone, Copy)]
 pub struct Standard {
     pub settings: Settings,
     pub colour: GridColour,
 }
 
 // What the numbers of a load come to.
-#[derive(Drop)]
+#[derive(Clone, Copy)]
 pub enum SettingsOf {
     Refused(u32),
     Are(Settings),
 }
 
 // What settings and a reference come to.
-#[derive(Drop)]
+#[derive(Clone, Copy)]
 pub enum Acceptance {
     Refused(u32),
     Accepted(Standard),

@@ -14,7 +14,7 @@ use sheet::differences::Differences;
 use sheet::verdict::Verdict;
 
 // The reference's.
-#[derive(Drop)]
+#[derive(Clone, Copy)]
 pub struct ReferenceFigures {
     pub L: f64,
     pub a: f64,
@@ -25,14 +25,14 @@ pub struct ReferenceFigures {
     pub SH: f64,
 }
 
-#[derive(Drop)]
+#[derive(Clone, Copy)]
 pub struct ReferenceAnswer {
     pub number: u32,
     pub figures: ReferenceFigures,
 }
 
 // The test specimen's.
-#[derive(Drop)]
+#[derive(Clone, Copy)]
 pub struct SpecimenFigures {
     pub L: f64,
     pub a: f64,
@@ -44,13 +44,13 @@ pub struct SpecimenFigures {
     pub DE: f64,
 }
 
-#[derive(Drop)]
+#[derive(Clone, Copy)]
 pub enum Named {
     Nothing,
     Names(Lightness, Chroma, Hue, Verdict),
 }
 
-#[derive(Drop)]
+#[derive(Clone, Copy)]
 pub struct SpecimenAnswer {
     pub number: u32,
     pub figures: SpecimenFigures,

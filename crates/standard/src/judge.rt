@@ -12,7 +12,7 @@ use sheet::scaled::Scaled;
 use sheet::verdict::Verdict;
 
 // All that a judgement finds, with the standard that it goes by.
-#[derive(Drop)]
+#[derive(Clone, Copy)]
 pub struct Judgement {
     pub standard: Standard,
     pub test: GridColour,
@@ -26,7 +26,7 @@ pub struct Judgement {
 }
 
 // What a test specimen comes to.
-#[derive(Drop)]
+#[derive(Clone, Copy)]
 pub enum Outcome {
     Refused(u32),
     Judged(Judgement),

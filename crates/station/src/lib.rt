@@ -8,7 +8,7 @@ ghost use Rattle.station.specs.Record.{store_in, settings_in, colour_in, placed,
 use crate::record::{bytes_of, colour_at, copy, settings_at};
 use standard::accept::{Acceptance, SettingsOf, Standard, accept};
 
-#[derive(Drop)]
+#[derive(Clone, Copy)]
 pub enum Station {
     Empty,
     Holds(Standard),

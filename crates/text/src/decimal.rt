@@ -7,7 +7,7 @@ use crate::put::put;
 
 // A decimal as it is shown: its magnitude in units of 10^-places and in whole ones, and whether a minus stands before
 // it.
-#[derive(Drop)]
+#[derive(Clone, Copy)]
 pub struct Shown {
     pub places: u32,
     pub minus: bool,

@@ -7,13 +7,13 @@ use crate::bytes::{find, part_after, part_before, starts};
 use reading::decimal::Decimal;
 
 // What a text says as a number, if it is one.
-#[derive(Drop)]
+#[derive(Clone, Copy)]
 pub enum NumberRead {
     Nothing,
     Is(u64),
 }
 
-#[derive(Drop)]
+#[derive(Clone, Copy)]
 pub enum SignedRead {
     Nothing,
     Is(Decimal),

@@ -15,14 +15,14 @@ use sheet::settings::Settings;
 use text::bytes::{find, part_after, starts};
 use text::number::{NumberRead, thousandths};
 
-#[derive(Drop)]
+#[derive(Clone, Copy)]
 pub struct Ticket {
     pub settings: Settings,
     pub reference: Written,
     pub test: Written,
 }
 
-#[derive(Drop)]
+#[derive(Clone, Copy)]
 pub enum Parsed {
     Right(Ticket),
     // The number of the first wrong line.

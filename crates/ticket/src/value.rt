@@ -12,32 +12,32 @@ use text::bytes::{part_after, part_before, same};
 use text::number::{SignedRead, signed};
 
 // Whether the readings are tristimulus values or coordinates.
-#[derive(Drop)]
+#[derive(Clone, Copy)]
 pub enum Space {
     Xyz,
     Lab,
 }
 
 // What a value says, if it is right.
-#[derive(Drop)]
+#[derive(Clone, Copy)]
 pub enum FormulaRead {
     Nothing,
     Is(Formula),
 }
 
-#[derive(Drop)]
+#[derive(Clone, Copy)]
 pub enum WhiteRead {
     Nothing,
     Is(White),
 }
 
-#[derive(Drop)]
+#[derive(Clone, Copy)]
 pub enum SpaceRead {
     Nothing,
     Is(Space),
 }
 
-#[derive(Drop)]
+#[derive(Clone, Copy)]
 pub enum ReadingRead {
     Nothing,
     Is(Written),

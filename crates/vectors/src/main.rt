@@ -16,7 +16,7 @@ use sheet::formula::Formula;
 use tables::{COMPONENTS, FIGURE_1, Paper, TABLE_2};
 
 // What the sheet and the names say of two colours.
-#[derive(Drop)]
+#[derive(Clone, Copy)]
 enum Found {
     Nothing,
     Pair(Differences, Chroma, Hue),
