@@ -1,4 +1,5 @@
 // SCOPE 7.4: the hue angle of a colour, in whole degrees.
+#![tactic(auto)]
 mod cosine;
 mod sine;
 

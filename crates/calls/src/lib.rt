@@ -1,4 +1,5 @@
 // The calls: load, judge and ticket on slices that the host lends, and the same handed back as floats.
+#![tactic(auto)]
 mod figures;
 mod lent;
 mod outcome;

@@ -1,4 +1,5 @@
 // A delivery with no standard: its mean colour, each cone's DE from it, and the farthest cone.
+#![tactic(auto)]
 mod farthest;
 mod mean;
 mod sorted;

@@ -1,4 +1,5 @@
 // What the program prints for a text.
+#![tactic(auto)]
 mod refusal;
 
 ghost use Rattle.report.specs.Report.{report_text};

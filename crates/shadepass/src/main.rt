@@ -1,4 +1,5 @@
 // shadepass: prints the report of the ticket on standard input, or the line of its refusal.
+#![tactic(auto)]
 use libc::{STDIN_FILENO, STDOUT_FILENO};
 use printing::printed;
 

@@ -1,4 +1,5 @@
 // The station: what it holds between calls, and the slice that it lies in.
+#![tactic(auto)]
 mod bytes;
 mod record;
 

@@ -1,5 +1,6 @@
 // Outside vectors, run and compared: Table 2 of BS 6923, the example of document 002, and the five statements of its
 // Figure 1.
+#![tactic(auto)]
 mod say;
 mod tables;
 

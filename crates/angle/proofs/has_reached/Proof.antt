@@ -39,12 +39,12 @@ module _ (c : tie.Start) where
   cosine_in : k < length c.args.cosine.now
   cosine_in = omega (arith, c.requires.1.degree, ap length c.requires.0.cosine, cosines-length)
 
-sine-product : tie.Need-overflow-mul-result-2
+sine-product : tie.Need-overflow_mul-result
 sine-product c =
     let s = c.before in
     record { fits = product_lt _ s.args.x (sine-short s) s.requires.1.colour.along }
 
-cosine-product : tie.Need-overflow-mul-result-4
+cosine-product : tie.Need-overflow_mul-result-2
 cosine-product c =
     let s = c.before.before in
     record { fits = product_lt _ s.args.y (cosine-short s) s.requires.1.colour.beyond }

@@ -16,49 +16,49 @@ use Rattle.angle.proofs.hue_angle.Tie as tie
 
 -- ---- the two magnitudes
 
-module _ (c : tie.After-magnitude2) where
+module _ (c : tie.After-magnitude-y) where
   abbrev a : ℤ
   a = c.before.before.args.a
 
   abbrev b : ℤ
   b = c.before.before.args.b
 
-  x_is : c.before.magnitude.result ≡ ∣ a ∣
-  x_is = rw (to_z-of_z c.before.before.ranges.a) at c.before.magnitude.ensures
+  x_is : c.before.magnitude-x.result ≡ ∣ a ∣
+  x_is = rw (to_z-of_z c.before.before.ranges.a) at c.before.magnitude-x.ensures
 
-  y_is : c.magnitude2.result ≡ ∣ b ∣
-  y_is = rw (to_z-of_z c.before.before.ranges.b) at c.magnitude2.ensures
+  y_is : c.magnitude-y.result ≡ ∣ b ∣
+  y_is = rw (to_z-of_z c.before.before.ranges.b) at c.magnitude-y.ensures
 
-  x_le : c.before.magnitude.result ≤ 256 * 2 ^ 20
+  x_le : c.before.magnitude-x.result ≤ 256 * 2 ^ 20
   x_le = rw x_is c.before.before.requires.a_range
 
-  y_le : c.magnitude2.result ≤ 256 * 2 ^ 20
+  y_le : c.magnitude-y.result ≤ 256 * 2 ^ 20
   y_le = rw y_is c.before.before.requires.b_range
 
-neutral : tie.Need-returns
+neutral : tie.Need-returns-then-x-y-eq0
 neutral c =
     let m = c.before in
-    let a-none : ∣ a m ∣ ≡ 0 = omega (arith, x_is m, c.if1.true) in
-    let b-none : ∣ b m ∣ ≡ 0 = omega (arith, y_is m, c.if1.true) in
+    let a-none : ∣ a m ∣ ≡ 0 = omega (arith, x_is m, c.if-x-y-eq0.true) in
+    let b-none : ∣ b m ∣ ≡ 0 = omega (arith, y_is m, c.if-x-y-eq0.true) in
     sym (ap₂ hue_angle (zero_of_abs (a m) a-none) (zero_of_abs (b m) b-none) ∙ neutral_angle)
 
 -- ---- a quadrant, and the degrees in it
 
-module _ (c : tie.After-quadrant-of) where
-  abbrev m : tie.After-magnitude2
+module _ (c : tie.After-quadrant_of-q) where
+  abbrev m : tie.After-magnitude-y
   m = c.before.before
 
-  q_is : c.quadrant-of.result ≡ quadrant (a m) (b m)
-  q_is = simp (to_z-of_z, m.before.before.fits.a, m.before.before.fits.b) at c.quadrant-of.ensures
+  q_is : c.quadrant_of-q.result ≡ quadrant (a m) (b m)
+  q_is = simp (to_z-of_z, m.before.before.fits.a, m.before.before.fits.b) at c.quadrant_of-q.ensures
 
-  q_lt : c.quadrant-of.result < 4
+  q_lt : c.quadrant_of-q.result < 4
   q_lt = rw q_is (quadrant-lt (a m) (b m))
 
   some : HasHue (a m) (b m)
   some e f =
       let x-none : ∣ a m ∣ ≡ 0 = ap (λ (z : ℤ). ∣ z ∣) e in
       let y-none : ∣ b m ∣ ≡ 0 = ap (λ (z : ℤ). ∣ z ∣) f in
-      omega (arith, x_is m, y_is m, c.before.if1.false)
+      omega (arith, x_is m, y_is m, c.before.if-x-y-eq0.false)
 
 -- q quarter turns and the degrees ahead
 together :
@@ -68,17 +68,17 @@ together e f g h = rw (e, f, g, h)
 at_most_lem : (x y : ℕ) {q k : ℕ} → q < 4 → k ≡ degrees_ahead x y → 90 * q + k < 2 ^ 32
 at_most_lem x y h e = omega (arith, degrees-lt x y)
 
-along_a : tie.Need-returns-2
+along_a : tie.Need-returns-then-q-eq0
 along_a c =
     let q = c.before.before in
-    together (q_is q) c.degrees-ahead.ensures (x_is (m q)) (y_is (m q))
-    ∙ sym (angle_along_a (a (m q)) (b (m q)) (some q) (rw (q_is q) at c.before.if2.true))
+    together (q_is q) c.degrees_ahead.ensures (x_is (m q)) (y_is (m q))
+    ∙ sym (angle_along_a (a (m q)) (b (m q)) (some q) (rw (q_is q) at c.before.if-q-eq0.true))
 
-along_b : tie.Need-returns-3
+along_b : tie.Need-returns
 along_b c =
     let q = c.before.before in
-    together (q_is q) c.degrees-ahead2.ensures (y_is (m q)) (x_is (m q))
-    ∙ sym (angle_along_b (a (m q)) (b (m q)) (some q) (rw (q_is q) at c.before.if2.false))
+    together (q_is q) c.degrees_ahead-2.ensures (y_is (m q)) (x_is (m q))
+    ∙ sym (angle_along_b (a (m q)) (b (m q)) (some q) (rw (q_is q) at c.before.if-q-eq0.false))
 
 pub hue_angle_spec : {M : Type 1} → statement M
 hue_angle_spec =
@@ -91,9 +91,9 @@ hue_angle_spec =
     (λ c κs. search rules)
     (λ c. omega (arith, q_lt c.before))
     (λ c κs. record { along = x_le (m c.before); beyond = y_le (m c.before) })
-    (λ c. record { fits = at_most_lem _ _ (q_lt c.before.before) c.degrees-ahead.ensures })
+    (λ c. record { fits = at_most_lem _ _ (q_lt c.before.before) c.degrees_ahead.ensures })
     along_a
     (λ c. omega (arith, q_lt c.before))
     (λ c κs. record { along = y_le (m c.before); beyond = x_le (m c.before) })
-    (λ c. record { fits = at_most_lem _ _ (q_lt c.before.before) c.degrees-ahead2.ensures })
+    (λ c. record { fits = at_most_lem _ _ (q_lt c.before.before) c.degrees_ahead-2.ensures })
     along_b)

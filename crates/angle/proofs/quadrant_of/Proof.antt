@@ -5,39 +5,39 @@ use Rattle.angle.specs.Angle.Quadrants.{quadrant_0, quadrant_1, quadrant_2, quad
 use Rattle.angle.proofs.quadrant_of.Statement.{statement}
 use Rattle.angle.proofs.quadrant_of.Tie as tie
 
-fourth : tie.Need-returns
+fourth : tie.Need-returns-then-b-lt0
 fourth c =
     let s = c.before.before in
-    quadrant_3 s.args.a s.args.b (rw (to_z-of_z s.ranges.a) at c.before.if1.true)
-    (rw (to_z-of_z s.ranges.b) at c.if2.true)
+    quadrant_3 s.args.a s.args.b (rw (to_z-of_z s.ranges.a) at c.before.if-a-gt0.true)
+    (rw (to_z-of_z s.ranges.b) at c.if-b-lt0.true)
 
-first : tie.Need-returns-2
+first : tie.Need-returns-else-b-lt0
 first c =
     let s = c.before.before in
-    quadrant_0 s.args.a s.args.b (rw (to_z-of_z s.ranges.a) at c.before.if1.true)
-    (rw (to_z-of_z s.ranges.b) at c.if2.false)
+    quadrant_0 s.args.a s.args.b (rw (to_z-of_z s.ranges.a) at c.before.if-a-gt0.true)
+    (rw (to_z-of_z s.ranges.b) at c.if-b-lt0.false)
 
-second : tie.Need-returns-3
+second : tie.Need-returns-then-b-gt0
 second c =
     let s = c.before.before in
-    quadrant_1 s.args.a s.args.b (rw (to_z-of_z s.ranges.a) at c.before.if1.false)
-    (rw (to_z-of_z s.ranges.b) at c.if3.true)
+    quadrant_1 s.args.a s.args.b (rw (to_z-of_z s.ranges.a) at c.before.if-a-gt0.false)
+    (rw (to_z-of_z s.ranges.b) at c.if-b-gt0.true)
 
-third : tie.Need-returns-4
+third : tie.Need-returns-then-a-lt0
 third c =
     let back = c.before.before in
     let s = back.before in
-    quadrant_2 s.args.a s.args.b (rw (to_z-of_z s.ranges.a) at back.if1.false)
-    (rw (to_z-of_z s.ranges.b) at c.before.if3.false)
-    (rw (to_z-of_z s.ranges.a) at c.if4.true)
+    quadrant_2 s.args.a s.args.b (rw (to_z-of_z s.ranges.a) at back.if-a-gt0.false)
+    (rw (to_z-of_z s.ranges.b) at c.before.if-b-gt0.false)
+    (rw (to_z-of_z s.ranges.a) at c.if-a-lt0.true)
 
-last : tie.Need-returns-5
+last : tie.Need-returns-else-a-lt0
 last c =
     let back = c.before.before in
     let s = back.before in
-    quadrant_3_or_none s.args.a s.args.b (rw (to_z-of_z s.ranges.a) at back.if1.false)
-    (rw (to_z-of_z s.ranges.b) at c.before.if3.false)
-    (rw (to_z-of_z s.ranges.a) at c.if4.false)
+    quadrant_3_or_none s.args.a s.args.b (rw (to_z-of_z s.ranges.a) at back.if-a-gt0.false)
+    (rw (to_z-of_z s.ranges.b) at c.before.if-b-gt0.false)
+    (rw (to_z-of_z s.ranges.a) at c.if-a-lt0.false)
 
 pub quadrant_of_spec : {M : Type 1} → statement M
 quadrant_of_spec = tie.close (tie.spec fourth first second third last)

@@ -41,13 +41,13 @@ module _ {all degrees left : ℕ} (more : 0 < left) (n : Narrowed all degrees le
 
 -- ---- the loop
 
-abbrev Inv : tie.invariant-loop
+abbrev Inv : tie.invariant-loop-left
 Inv sine cosine x y degrees₀ left₀ degrees left = Narrowed (degrees_ahead x y) degrees left
 
-abbrev μ : tie.decreases-loop
+abbrev μ : tie.decreases-loop-left
 μ sine cosine x y degrees₀ left₀ degrees left = left
 
-starts : tie.Need-loop-init Inv μ
+starts : tie.Need-loop-left-init Inv μ
 starts c =
     let start = c.before.before in
     record {
@@ -57,15 +57,15 @@ starts c =
     }
 
 -- in a turn
-module _ (c : tie.In-loop Inv μ) where
+module _ (c : tie.In-loop-left Inv μ) where
   abbrev start : tie.Start Inv μ
   start = c.before.before.before.before
 
   abbrev left : ℕ
-  left = c.before.loop.left
+  left = c.before.loop-left.left
 
-  abbrev inv : Narrowed (degrees_ahead start.args.x start.args.y) c.before.loop.degrees left
-  inv = c.before.loop.invariant
+  abbrev inv : Narrowed (degrees_ahead start.args.x start.args.y) c.before.loop-left.degrees left
+  inv = c.before.loop-left.invariant
 
   step : 1 * 2 ^ (left - 1) % 2 ^ 32 ≡ 2 ^ (left - 1)
   step = step_is left inv.digits
@@ -73,41 +73,41 @@ module _ (c : tie.In-loop Inv μ) where
   few : degrees_ahead start.args.x start.args.y < 90
   few = degrees-lt start.args.x start.args.y
 
-reached : tie.Need-loop-preserved Inv μ
+reached : tie.Need-loop-left-preserved-then-has_reached Inv μ
 reached c =
     let turn = c.before.before.before in
-    let next = rw (step turn) at c.before.before.if1.true in
-    let is = rw (step turn) at c.before.has-reached.ensures in
-    rw (step turn) (one turn.loop-test.true (inv turn) ((reached-upto _ _ _ next).0 (sym is ∙ c.if2.true)))
+    let next = rw (step turn) at c.before.before.if-next-lt90.true in
+    let is = rw (step turn) at c.before.has_reached.ensures in
+    rw (step turn) (one turn.loop-left-test.true (inv turn) ((reached-upto _ _ _ next).0 (sym is ∙ c.if-has_reached.true)))
 
-ahead : tie.Need-loop-preserved-2 Inv μ
+ahead : tie.Need-loop-left-preserved-else-has_reached Inv μ
 ahead c =
     let turn = c.before.before.before in
-    let next = rw (step turn) at c.before.before.if1.true in
-    let is = rw (step turn) at c.before.has-reached.ensures in
-    none turn.loop-test.true (inv turn) (not_reached _ _ _ next (sym is ∙ c.if2.false))
+    let next = rw (step turn) at c.before.before.if-next-lt90.true in
+    let is = rw (step turn) at c.before.has_reached.ensures in
+    none turn.loop-left-test.true (inv turn) (not_reached _ _ _ next (sym is ∙ c.if-has_reached.false))
 
-beyond : tie.Need-loop-preserved-3 Inv μ
+beyond : tie.Need-loop-left-preserved Inv μ
 beyond c =
     let turn = c.before in
-    let next = rw (step turn) at c.if1.false in
-    none turn.loop-test.true (inv turn) (omega (arith, next, few turn))
+    let next = rw (step turn) at c.if-next-lt90.false in
+    none turn.loop-left-test.true (inv turn) (omega (arith, next, few turn))
 
-next_fits : tie.Need-overflow-add-next Inv μ
+next_fits : tie.Need-overflow_add-next Inv μ
 next_fits c = record {
   fits = rw (step c) (omega (arith, step_le (left c) (inv c).digits, (inv c).from, few c));
 }
 
-near : tie.Need-has-reached-requires Inv μ
+near : tie.Need-has_reached-requires Inv μ
 near c κs =
-    let pre = (start c.before).pre in
-    (pre.0, record { degree = omega (arith, c.if1.true); colour = pre.1 })
+    let pre = (start c.before).requires in
+    (pre.0, record { degree = omega (arith, c.if-next-lt90.true); colour = pre.1 })
 
 returns : tie.Need-returns Inv μ
 returns c =
-    let inv = c.before.loop.invariant in
-    let none_left : c.before.loop.left ≡ 0 = omega (arith, c.loop-test.false) in
-    let last : 2 ^ c.before.loop.left ≡ 1 = rw none_left refl in
+    let inv = c.before.loop-left.invariant in
+    let none_left : c.before.loop-left.left ≡ 0 = omega (arith, c.loop-left-test.false) in
+    let last : 2 ^ c.before.loop-left.left ≡ 1 = rw none_left refl in
     le_antisymm inv.from (omega (arith, inv.before))
 
 pub search_spec : {M : Type 1} → statement M
@@ -117,14 +117,14 @@ search_spec =
     Inv
     μ
     starts
-    (λ c. omega (arith, c.loop-test.true))
-    (λ c. omega (arith, c.before.loop.invariant.digits))
+    (λ c. omega (arith, c.loop-left-test.true))
+    (λ c. omega (arith, c.before.loop-left.invariant.digits))
     next_fits
     near
-    (λ c. omega (arith, c.before.before.before.loop-test.true))
+    (λ c. omega (arith, c.before.before.before.loop-left-test.true))
     reached
-    (λ c. omega (arith, c.before.before.before.loop-test.true))
+    (λ c. omega (arith, c.before.before.before.loop-left-test.true))
     ahead
-    (λ c. omega (arith, c.before.loop-test.true))
+    (λ c. omega (arith, c.before.loop-left-test.true))
     beyond
     returns)

@@ -5,28 +5,28 @@ use Rattle.cones.specs.Cones.Laws.{readings_length, colour-has-reading, colour_t
 use Rattle.cones.proofs.colour_at.Statement.{statement}
 use Rattle.cones.proofs.colour_at.Tie as tie
 
-reading-at-requires : tie.Need-reading-at-requires
+reading-at-requires : tie.Need-reading_at-requires
 reading-at-requires c κs =
     let start = c.before.before.before in
     let asked = start.requires in
     (asked.0, rw (readings_length _ _ _ _ asked.0) at (colour-has-reading start.args.white _ asked.1))
 
-at : tie.Need-returns
+at : tie.Need-returns-in-At
 at c =
     let at_place = c.before.before.before in
     let at_reading = at_place.before in
     let start = at_reading.before.before.before.before in
-    colour_there start.args.white _ start.requires.1 at_reading.reading-at.ensures
-    at_place.place-reading.ensures c.before.colour.given.1
+    colour_there start.args.white _ start.requires.1 at_reading.reading_at.ensures
+    at_place.place_reading.ensures c.before.colour-1.given.1
 
-refused : tie.Need-returns-2
+refused : tie.Need-returns-in-Refused
 refused c =
     let at_place = c.before.before in
     let at_reading = at_place.before in
     let start = at_reading.before.before.before.before in
     absurd
-    (not_refused start.args.white _ start.requires.1 at_reading.reading-at.ensures
-    at_place.place-reading.ensures c.enum_told.given.1)
+    (not_refused start.args.white _ start.requires.1 at_reading.reading_at.ensures
+    at_place.place_reading.ensures c.enum_told-1.given.1)
 
 pub colour_at_spec : {M : Type 1} → statement M
 colour_at_spec =

@@ -10,7 +10,7 @@ use Rattle.cones.proofs.reading_at.Tie as tie
 returns : tie.Need-returns
 returns c =
     let start = c.before.before.before.before.before.before.before in
-    c.reading-of.ensures
+    c.reading_of.ensures
     ∙ zip_at (reading_of start.args.kind) _ _ _ start.args.i _ no_reading start.requires.0 start.requires.1
 
 pub reading_at_spec : {M : Type 1} → statement M

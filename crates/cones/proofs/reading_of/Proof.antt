@@ -22,5 +22,5 @@ reading_of_spec =
     (tie.spec
     (λ c. search rules)
     (λ c. search rules)
-    (λ c. xyz_is _ _ _ _ c.enum_told.given.1)
-    (λ c. lab_is _ _ _ _ c.enum-told2.given.1))
+    (λ c. xyz_is _ _ _ _ c.enum_told-1.given.1)
+    (λ c. lab_is _ _ _ _ c.enum_told-in-Lab-1.given.1))

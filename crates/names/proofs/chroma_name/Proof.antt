@@ -7,12 +7,12 @@ pub chroma_name_spec : {M : Type 1} → statement M
 chroma_name_spec =
     tie.close
     (tie.spec
-    (λ c. rw (rw (to_z-of_z c.before.ranges.dc) at c.if1.true))
+    (λ c. rw (rw (to_z-of_z c.before.ranges.dc) at c.if-dc-lt0.true))
     (λ c. rw (
-      rw (to_z-of_z c.before.before.ranges.dc) at c.before.if1.false,
-      rw (to_z-of_z c.before.before.ranges.dc) at c.if2.true,
+      rw (to_z-of_z c.before.before.ranges.dc) at c.before.if-dc-lt0.false,
+      rw (to_z-of_z c.before.before.ranges.dc) at c.if-dc-gt0.true,
     ))
     (λ c. rw (
-      rw (to_z-of_z c.before.before.ranges.dc) at c.before.if1.false,
-      rw (to_z-of_z c.before.before.ranges.dc) at c.if2.false,
+      rw (to_z-of_z c.before.before.ranges.dc) at c.before.if-dc-lt0.false,
+      rw (to_z-of_z c.before.before.ranges.dc) at c.if-dc-gt0.false,
     )))

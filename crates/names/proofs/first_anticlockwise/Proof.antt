@@ -6,39 +6,39 @@ use Rattle.names.specs.Names.Laws.{ahead-fourth-quarter, ahead-right}
 use Rattle.names.proofs.first_anticlockwise.Statement.{statement}
 use Rattle.names.proofs.first_anticlockwise.Tie as tie
 
-first : tie.Need-returns
+first : tie.Need-returns-then-a-gt0
 first c =
     let s = c.before.before in
-    ahead_first_quarter s.args.a s.args.b (rw (to_z-of_z s.ranges.b) at c.before.if1.true)
-    (rw (to_z-of_z s.ranges.a) at c.if2.true)
+    ahead_first_quarter s.args.a s.args.b (rw (to_z-of_z s.ranges.b) at c.before.if-b-gt0.true)
+    (rw (to_z-of_z s.ranges.a) at c.if-a-gt0.true)
 
-second : tie.Need-returns-2
+second : tie.Need-returns-then-b-gt0
 second c =
     let s = c.before.before in
-    ahead-second-quarter s.args.a s.args.b (rw (to_z-of_z s.ranges.b) at c.before.if1.true)
-    (rw (to_z-of_z s.ranges.a) at c.if2.false)
+    ahead-second-quarter s.args.a s.args.b (rw (to_z-of_z s.ranges.b) at c.before.if-b-gt0.true)
+    (rw (to_z-of_z s.ranges.a) at c.if-a-gt0.false)
 
-third : tie.Need-returns-3
+third : tie.Need-returns-then-a-lt0
 third c =
     let s = c.before.before in
-    ahead-third-quarter s.args.a s.args.b (rw (to_z-of_z s.ranges.b) at c.before.if1.false)
-    (rw (to_z-of_z s.ranges.a) at c.if3.true)
+    ahead-third-quarter s.args.a s.args.b (rw (to_z-of_z s.ranges.b) at c.before.if-b-gt0.false)
+    (rw (to_z-of_z s.ranges.a) at c.if-a-lt0.true)
 
-fourth : tie.Need-returns-4
+fourth : tie.Need-returns-then-b-lt0
 fourth c =
     let flat = c.before.before in
     let s = flat.before in
-    ahead-fourth-quarter s.args.a s.args.b (rw (to_z-of_z s.ranges.b) at flat.if1.false)
-    (rw (to_z-of_z s.ranges.a) at c.before.if3.false)
-    (rw (to_z-of_z s.ranges.b) at c.if4.true)
+    ahead-fourth-quarter s.args.a s.args.b (rw (to_z-of_z s.ranges.b) at flat.if-b-gt0.false)
+    (rw (to_z-of_z s.ranges.a) at c.before.if-a-lt0.false)
+    (rw (to_z-of_z s.ranges.b) at c.if-b-lt0.true)
 
-right : tie.Need-returns-5
+right : tie.Need-returns-else-b-lt0
 right c =
     let flat = c.before.before in
     let s = flat.before in
-    ahead-right s.args.a s.args.b (rw (to_z-of_z s.ranges.b) at flat.if1.false)
-    (rw (to_z-of_z s.ranges.a) at c.before.if3.false)
-    (rw (to_z-of_z s.ranges.b) at c.if4.false)
+    ahead-right s.args.a s.args.b (rw (to_z-of_z s.ranges.b) at flat.if-b-gt0.false)
+    (rw (to_z-of_z s.ranges.a) at c.before.if-a-lt0.false)
+    (rw (to_z-of_z s.ranges.b) at c.if-b-lt0.false)
 
 pub first_anticlockwise_spec : {M : Type 1} → statement M
 first_anticlockwise_spec = tie.close (tie.spec first second third fourth right)

@@ -5,39 +5,39 @@ use Rattle.names.specs.Names.Laws.{behind-fourth-quarter, behind-left}
 use Rattle.names.proofs.first_clockwise.Statement.{statement}
 use Rattle.names.proofs.first_clockwise.Tie as tie
 
-second : tie.Need-returns
+second : tie.Need-returns-then-a-lt0
 second c =
     let s = c.before.before in
-    behind-second-quarter s.args.a s.args.b (rw (to_z-of_z s.ranges.b) at c.before.if1.true)
-    (rw (to_z-of_z s.ranges.a) at c.if2.true)
+    behind-second-quarter s.args.a s.args.b (rw (to_z-of_z s.ranges.b) at c.before.if-b-gt0.true)
+    (rw (to_z-of_z s.ranges.a) at c.if-a-lt0.true)
 
-first : tie.Need-returns-2
+first : tie.Need-returns-then-b-gt0
 first c =
     let s = c.before.before in
-    behind_first_quarter s.args.a s.args.b (rw (to_z-of_z s.ranges.b) at c.before.if1.true)
-    (rw (to_z-of_z s.ranges.a) at c.if2.false)
+    behind_first_quarter s.args.a s.args.b (rw (to_z-of_z s.ranges.b) at c.before.if-b-gt0.true)
+    (rw (to_z-of_z s.ranges.a) at c.if-a-lt0.false)
 
-fourth : tie.Need-returns-3
+fourth : tie.Need-returns-then-a-gt0
 fourth c =
     let s = c.before.before in
-    behind-fourth-quarter s.args.a s.args.b (rw (to_z-of_z s.ranges.b) at c.before.if1.false)
-    (rw (to_z-of_z s.ranges.a) at c.if3.true)
+    behind-fourth-quarter s.args.a s.args.b (rw (to_z-of_z s.ranges.b) at c.before.if-b-gt0.false)
+    (rw (to_z-of_z s.ranges.a) at c.if-a-gt0.true)
 
-third : tie.Need-returns-4
+third : tie.Need-returns-then-b-lt0
 third c =
     let flat = c.before.before in
     let s = flat.before in
-    behind-third-quarter s.args.a s.args.b (rw (to_z-of_z s.ranges.b) at flat.if1.false)
-    (rw (to_z-of_z s.ranges.a) at c.before.if3.false)
-    (rw (to_z-of_z s.ranges.b) at c.if4.true)
+    behind-third-quarter s.args.a s.args.b (rw (to_z-of_z s.ranges.b) at flat.if-b-gt0.false)
+    (rw (to_z-of_z s.ranges.a) at c.before.if-a-gt0.false)
+    (rw (to_z-of_z s.ranges.b) at c.if-b-lt0.true)
 
-left : tie.Need-returns-5
+left : tie.Need-returns-else-b-lt0
 left c =
     let flat = c.before.before in
     let s = flat.before in
-    behind-left s.args.a s.args.b (rw (to_z-of_z s.ranges.b) at flat.if1.false)
-    (rw (to_z-of_z s.ranges.a) at c.before.if3.false)
-    (rw (to_z-of_z s.ranges.b) at c.if4.false)
+    behind-left s.args.a s.args.b (rw (to_z-of_z s.ranges.b) at flat.if-b-gt0.false)
+    (rw (to_z-of_z s.ranges.a) at c.before.if-a-gt0.false)
+    (rw (to_z-of_z s.ranges.b) at c.if-b-lt0.false)
 
 pub first_clockwise_spec : {M : Type 1} → statement M
 first_clockwise_spec = tie.close (tie.spec second first fourth third left)

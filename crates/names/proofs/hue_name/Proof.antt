@@ -12,36 +12,36 @@ use Rattle.names.specs.Names.Laws.{hue-equal, hue_towards}
 use Rattle.names.proofs.hue_name.Statement.{statement}
 use Rattle.names.proofs.hue_name.Tie as tie
 
-same_is : (c : tie.After-same-hue) → c.same-hue.result ≡ same_hue c.before.args.cross c.before.args.dot
-same_is c = simp (to_z-of_z, c.before.ranges.cross, c.before.ranges.dot) at c.same-hue.ensures
+same_is : (c : tie.After-same_hue) → c.same_hue.result ≡ same_hue c.before.args.cross c.before.args.dot
+same_is c = simp (to_z-of_z, c.before.ranges.cross, c.before.ranges.dot) at c.same_hue.ensures
 
-equal : tie.Need-returns
-equal c = sym (hue-equal _ _ _ _ (sym (same_is c.before) ∙ c.if1.true))
+equal : tie.Need-returns-then-same_hue
+equal c = sym (hue-equal _ _ _ _ (sym (same_is c.before) ∙ c.if-same_hue.true))
 
 turned :
     (a b : ℤ) {first next : Axis} {w v : Bool} → w ≡ v → first ≡ first_met v a b → next ≡ next_met v first →
     Towards first next ≡ Towards (first_met w a b) (next_met w (first_met w a b))
 turned a b hw hf hn = cc
 
-clockwise : tie.Need-returns-2
+clockwise : tie.Need-returns-then-cross-lt0
 clockwise c =
     let t = c.before.before in
     let e = t.before in
     let s = e.before.before in
     let first = simp (to_z-of_z, s.ranges.a, s.ranges.b) at c.before.first_clockwise_lem.ensures in
-    turned s.args.a s.args.b (rw (to_z-of_z s.ranges.cross) at t.if2.true) first c.next-axis.ensures
+    turned s.args.a s.args.b (rw (to_z-of_z s.ranges.cross) at t.if-cross-lt0.true) first c.next_axis.ensures
     ∙ sym (hue_towards s.args.cross s.args.dot s.args.a s.args.b
-    (sym (same_is e.before) ∙ e.if1.false))
+    (sym (same_is e.before) ∙ e.if-same_hue.false))
 
-anticlockwise : tie.Need-returns-3
+anticlockwise : tie.Need-returns
 anticlockwise c =
     let t = c.before.before in
     let e = t.before in
     let s = e.before.before in
     let first = simp (to_z-of_z, s.ranges.a, s.ranges.b) at c.before.first_anticlockwise_lem.ensures in
-    turned s.args.a s.args.b (rw (to_z-of_z s.ranges.cross) at t.if2.false) first c.next-axis2.ensures
+    turned s.args.a s.args.b (rw (to_z-of_z s.ranges.cross) at t.if-cross-lt0.false) first c.next_axis-2.ensures
     ∙ sym (hue_towards s.args.cross s.args.dot s.args.a s.args.b
-    (sym (same_is e.before) ∙ e.if1.false))
+    (sym (same_is e.before) ∙ e.if-same_hue.false))
 
 pub hue_name_spec : {M : Type 1} → statement M
 hue_name_spec =

@@ -27,32 +27,32 @@ square_le : {x : ℕ} → x ≤ 4194304 → x * x ≤ 2 ^ 44
 square_le h = mul-le-mul h h
 
 -- ---- the magnitudes, as the code has them
-module _ (c : tie.After-magnitude2) where
-  abbrev at_a : tie.After-magnitude
+module _ (c : tie.After-magnitude-b) where
+  abbrev at_a : tie.After-magnitude-a
   at_a = c.before.before
 
   abbrev start : tie.Start
   start = at_a.before.before
 
-  a_is : at_a.magnitude.result ≡ ∣ start.args.x.a.0 ∣
+  a_is : at_a.magnitude-a.result ≡ ∣ start.args.x.a.0 ∣
   a_is =
       let back : to_z w64 (of_z w64 start.args.x.a.0) ≡ start.args.x.a.0 = search rules in
-      at_a.magnitude.ensures ∙ ap (λ (z : ℤ). ∣ z ∣) back
+      at_a.magnitude-a.ensures ∙ ap (λ (z : ℤ). ∣ z ∣) back
 
-  b_is : c.magnitude2.result ≡ ∣ start.args.x.b.0 ∣
+  b_is : c.magnitude-b.result ≡ ∣ start.args.x.b.0 ∣
   b_is =
       let back : to_z w64 (of_z w64 start.args.x.b.0) ≡ start.args.x.b.0 = search rules in
-      c.magnitude2.ensures ∙ ap (λ (z : ℤ). ∣ z ∣) back
+      c.magnitude-b.ensures ∙ ap (λ (z : ℤ). ∣ z ∣) back
 
-a_past_4 : tie.Need-returns
+a_past_4 : tie.Need-returns-then-a-gt-FOUR
 unfolding achromatic
-a_past_4 c = sym (first_past_4 _ _ (rw (a_is c.before) at c.if1.true))
+a_past_4 c = sym (first_past_4 _ _ (rw (a_is c.before) at c.if-a-gt-FOUR.true))
 
-b_past_4 : tie.Need-returns-2
+b_past_4 : tie.Need-returns-then-b-gt-FOUR
 unfolding achromatic
-b_past_4 c = sym (second_past_4 _ _ (rw (b_is c.before.before) at c.if2.true))
+b_past_4 c = sym (second_past_4 _ _ (rw (b_is c.before.before) at c.if-b-gt-FOUR.true))
 
-returns : tie.Need-returns-3
+returns : tie.Need-returns
 unfolding achromatic
 returns c =
     let at_b = c.before.before in
@@ -66,7 +66,7 @@ is_achromatic_spec =
     (λ c κs. search rules)
     a_past_4
     b_past_4
-    (λ c. omega (arith, square_le c.before.if1.false))
-    (λ c. omega (arith, square_le c.if2.false))
-    (λ c. omega (arith, square_le c.before.if1.false, square_le c.if2.false))
+    (λ c. omega (arith, square_le c.before.if-a-gt-FOUR.false))
+    (λ c. omega (arith, square_le c.if-b-gt-FOUR.false))
+    (λ c. omega (arith, square_le c.before.if-a-gt-FOUR.false, square_le c.if-b-gt-FOUR.false))
     returns)

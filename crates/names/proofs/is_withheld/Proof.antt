@@ -26,28 +26,28 @@ module _ {f : Formula} (R T : GridColour) where
   unfolding achromatic
   by_test e h = rw (e, h)
 
-cielab : tie.Need-returns
-cielab c = let args = c.before.before.args in under-cielab args.r args.t c.enum_told.given.1
+cielab : tie.Need-returns-in-CIELAB
+cielab c = let args = c.before.before.args in under-cielab args.r args.t c.enum_told-1.given.1
 
-cie94 : tie.Need-returns-2
-cie94 c = let args = c.before.before.args in under-cie94 args.r args.t c.enum-told2.given.1
+cie94 : tie.Need-returns-in-CIE94
+cie94 c = let args = c.before.before.args in under-cie94 args.r args.t c.enum_told-in-CIE94-1.given.1
 
-reference : tie.Need-returns-3
+reference : tie.Need-returns-then-is_achromatic
 reference c =
     let at-r = c.before in
     let at_formula_lem = at-r.before in
     let args = at_formula_lem.before.before.args in
-    let of-r : achromatic args.r ≡ true = sym at-r.is-achromatic.ensures ∙ c.if1.true in
-    c.if1.true ∙ by_reference args.r args.t at_formula_lem.enum-told3.given.1 of-r
+    let of-r : achromatic args.r ≡ true = sym at-r.is_achromatic.ensures ∙ c.if-is_achromatic.true in
+    c.if-is_achromatic.true ∙ by_reference args.r args.t at_formula_lem.enum_told-in-CMC-1.given.1 of-r
 
-test : tie.Need-returns-4
+test : tie.Need-returns-else-is_achromatic
 test c =
     let at-r = c.before.before in
     let at_formula_lem = at-r.before in
     let args = at_formula_lem.before.before.args in
-    let of-r : achromatic args.r ≡ false = sym at-r.is-achromatic.ensures ∙ c.before.if1.false in
-    let of-t : c.is-achromatic2.result ≡ achromatic args.t = c.is-achromatic2.ensures in
-    of-t ∙ by_test args.r args.t at_formula_lem.enum-told3.given.1 of-r
+    let of-r : achromatic args.r ≡ false = sym at-r.is_achromatic.ensures ∙ c.before.if-is_achromatic.false in
+    let of-t : c.is_achromatic-else-is_achromatic.result ≡ achromatic args.t = c.is_achromatic-else-is_achromatic.ensures in
+    of-t ∙ by_test args.r args.t at_formula_lem.enum_told-in-CMC-1.given.1 of-r
 
 pub is_withheld_spec : {M : Type 1} → statement M
 is_withheld_spec =

@@ -7,12 +7,12 @@ pub lightness_name_spec : {M : Type 1} → statement M
 lightness_name_spec =
     tie.close
     (tie.spec
-    (λ c. rw (rw (to_z-of_z c.before.ranges.dl) at c.if1.true))
+    (λ c. rw (rw (to_z-of_z c.before.ranges.dl) at c.if-dl-lt0.true))
     (λ c. rw (
-      rw (to_z-of_z c.before.before.ranges.dl) at c.before.if1.false,
-      rw (to_z-of_z c.before.before.ranges.dl) at c.if2.true,
+      rw (to_z-of_z c.before.before.ranges.dl) at c.before.if-dl-lt0.false,
+      rw (to_z-of_z c.before.before.ranges.dl) at c.if-dl-gt0.true,
     ))
     (λ c. rw (
-      rw (to_z-of_z c.before.before.ranges.dl) at c.before.if1.false,
-      rw (to_z-of_z c.before.before.ranges.dl) at c.if2.false,
+      rw (to_z-of_z c.before.before.ranges.dl) at c.before.if-dl-lt0.false,
+      rw (to_z-of_z c.before.before.ranges.dl) at c.if-dl-gt0.false,
     )))

@@ -4,16 +4,16 @@ use Rattle.printing.specs.Printed.Laws.{prints_report, prints_no_report}
 use Rattle.printing.proofs.print_report.Statement.{statement}
 use Rattle.printing.proofs.print_report.Tie as tie
 
-written : tie.Need-returns
+written : tie.Need-returns-then-write_report-eq0
 written c =
     let taken = c.before in
     let at-writing = taken.before.before.before in
-    prints_report at-writing.write-report.ensures taken.if1.true c.report-len.ensures
+    prints_report at-writing.write_report.ensures taken.if-write_report-eq0.true c.report_len.ensures
 
-too_short : tie.Need-returns-2
+too_short : tie.Need-returns-else-write_report-eq0
 too_short c =
     let at-writing = c.before.before.before in
-    prints_no_report at-writing.write-report.ensures c.if1.false
+    prints_no_report at-writing.write_report.ensures c.if-write_report-eq0.false
 
 pub print_report_spec : {M : Type 1} → statement M
 print_report_spec =

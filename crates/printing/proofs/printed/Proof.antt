@@ -4,27 +4,27 @@ use Rattle.printing.specs.Printed.Laws.{refusal-printed, report-printed, prints_
 use Rattle.printing.proofs.printed.Statement.{statement}
 use Rattle.printing.proofs.printed.Tie as tie
 
-refused : tie.Need-returns
+refused : tie.Need-returns-in-Refused
 refused c =
     let at-printing = c.before.before in
     let at-line = at-printing.before.before in
     let at_number = at-line.before.before in
     let at-outcome = at_number.before.before in
     prints_as
-    (refusal-printed _ at-outcome.before.parse.ensures at-outcome.ticket-outcome.ensures
-    at_number.number.given.1 at-line.Line-of.ensures)
-    at-printing.print-refusal.ensures
+    (refusal-printed _ at-outcome.before.parse-p.ensures at-outcome.ticket_outcome.ensures
+    at_number.number-1.given.1 at-line.Line-of.ensures)
+    at-printing.print_refusal.ensures
 
-judged : tie.Need-returns-2
+judged : tie.Need-returns-in-Judged
 judged c =
     let at-printing = c.before.before in
     let told = at-printing.before.before in
     let at-judgement = told.before in
     let at-outcome = at-judgement.before.before in
     prints_as
-    (report-printed _ at-outcome.before.parse.ensures at-outcome.ticket-outcome.ensures
-    at-judgement.j.given.1)
-    at-printing.print-report.ensures
+    (report-printed _ at-outcome.before.parse-p.ensures at-outcome.ticket_outcome.ensures
+    at-judgement.j-1.given.1)
+    at-printing.print_report.ensures
 
 pub printed_spec : {M : Type 1} → statement M
 printed_spec =

@@ -4,7 +4,7 @@ use Rattle.shade.proofs.shade_load_xyz.Statement.{statement}
 use Rattle.shade.proofs.shade_load_xyz.Tie as tie
 
 returns : tie.Need-returns
-returns c = c.before.before.load-call.ensures
+returns c = c.before.before.load_call.ensures
 
 pub shade_load_xyz_spec : {M : Type 1} → statement M
 shade_load_xyz_spec = tie.close (tie.spec (λ c κs. search rules) (λ c. search rules) returns)

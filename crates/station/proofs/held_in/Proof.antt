@@ -23,34 +23,34 @@ module _ (xs : List ℕ) {q : SettingsOf} (hq : q ≡ settings_in xs) where
       held_as a ≡ held_by (settings_in xs) (placed (colour_in xs))
   held_is h hp ha = rw (← hq, h, ← hp, ha)
 
-unnamed : tie.Need-returns
+unnamed : tie.Need-returns-in-Refused
 unnamed c =
     let at-settings = c.before.before in
-    no_settings at-settings.before.before.args.s.now at-settings.settings-at.ensures c.enum_told.given.1
+    no_settings at-settings.before.before.args.s.now at-settings.settings_at.ensures c.enum_told-1.given.1
 
 -- ---- where the settings are tried with the colour
 module _ (c : tie.After-accept) where
-  abbrev at_colour : tie.After-colour-at
+  abbrev at_colour : tie.After-colour_at
   at_colour = c.before
 
-  abbrev named : tie.After-settings
+  abbrev named : tie.In-Are-2
   named = at_colour.before.before
 
   abbrev bytes : List ℕ
-  bytes = let at-settings : tie.After-settings-at = named.before.before in at-settings.before.before.args.s.now
+  bytes = let at-settings : tie.After-settings_at = named.before.before in at-settings.before.before.args.s.now
 
   as_accepted : held_as c.accept.result ≡ held_by (settings_in bytes) (placed (colour_in bytes))
   as_accepted =
-      held_is bytes named.before.before.settings-at.ensures named.settings.given.1
-      at_colour.colour-at.ensures c.accept.ensures
+      held_is bytes named.before.before.settings_at.ensures named.settings-1.given.1
+      at_colour.colour_at.ensures c.accept.ensures
 
-refused : tie.Need-returns-2
-refused c = let tried = c.before.before in sym (ap held_as c.enum-told2.given.1) ∙ as_accepted tried
+refused : tie.Need-returns-in-Refused-accept
+refused c = let tried = c.before.before in sym (ap held_as c.enum_told-in-Refused-accept-1.given.1) ∙ as_accepted tried
 
-accepted : tie.Need-returns-3
+accepted : tie.Need-returns-in-Accepted
 accepted c =
     let at_standard = c.before in
-    sym (ap held_as at_standard.standard.given.1) ∙ as_accepted at_standard.before.before
+    sym (ap held_as at_standard.standard-1.given.1) ∙ as_accepted at_standard.before.before
 
 pub held_in_spec : {M : Type 1} → statement M
 held_in_spec =

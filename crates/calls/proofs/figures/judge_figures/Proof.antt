@@ -6,7 +6,7 @@ use Rattle.calls.proofs.figures.judge_figures.Statement.{statement}
 use Rattle.calls.proofs.figures.judge_figures.Tie as tie
 
 returns : tie.Need-returns
-returns c = c.specimen-answer.ensures ∙ ap specimen_answer c.before.judge-outcome.ensures
+returns c = c.specimen_answer.ensures ∙ ap specimen_answer c.before.judge_outcome.ensures
 
 pub judge_figures_spec : {M : Type 1} → statement M
 judge_figures_spec = tie.close (tie.spec (λ c κs. search rules) (λ c κs. search rules) returns)

@@ -7,11 +7,11 @@ use Rattle.calls.specs.Outcome.Load.{loaded-valid}
 use Rattle.calls.proofs.figures.load_figures.Statement.{statement}
 use Rattle.calls.proofs.figures.load_figures.Tie as tie
 
-valid : tie.Need-reference-answer-requires
-valid c κs s e = loaded-valid _ _ s (sym c.load-outcome.ensures ∙ e)
+valid : tie.Need-reference_answer-requires
+valid c κs s e = loaded-valid _ _ s (sym c.load_outcome.ensures ∙ e)
 
 returns : tie.Need-returns
-returns c = c.reference-answer.ensures ∙ ap reference_answer c.before.load-outcome.ensures
+returns c = c.reference_answer.ensures ∙ ap reference_answer c.before.load_outcome.ensures
 
 pub load_figures_spec : {M : Type 1} → statement M
 load_figures_spec = tie.close (tie.spec (λ c κs. search rules) valid returns)

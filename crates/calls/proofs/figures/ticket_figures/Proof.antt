@@ -13,10 +13,10 @@ unfolding ticket_answer
 returns c =
     let at-outcome = c.before in
     let at-line = at-outcome.before in
-    let parsed = at-line.before.parse.ensures in
+    let parsed = at-line.before.parse-p.ensures in
     let line = at-line.Line-of.ensures ∙ ap line_of parsed in
-    let outcome = at-outcome.ticket-outcome.ensures ∙ ap ticket_outcome parsed in
-    let answer = c.specimen-answer.ensures ∙ ap specimen_answer outcome in
+    let outcome = at-outcome.ticket_outcome.ensures ∙ ap ticket_outcome parsed in
+    let answer = c.specimen_answer-answer.ensures ∙ ap specimen_answer outcome in
     λ i. record { line = line i; answer = answer i }
 
 pub ticket_figures_spec : {M : Type 1} → statement M

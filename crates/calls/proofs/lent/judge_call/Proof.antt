@@ -9,7 +9,7 @@ returns : tie.Need-returns
 returns c =
     let at-report = c.before.before in
     let at-outcome = at-report.before.before in
-    let gives = judge_call_gives _ _ _ _ at-outcome.judge-outcome.ensures at-report.report-on.ensures in
+    let gives = judge_call_gives _ _ _ _ at-outcome.judge_outcome.ensures at-report.report_on.ensures in
     (gives, judged-after _ _ _ _ gives)
 
 pub judge_call_spec : {M : Type 1} → statement M

@@ -8,8 +8,8 @@ returns : tie.Need-returns
 returns c =
     let at-report = c.before.before in
     let at-outcome = at-report.before.before in
-    ticket_call_gives _ _ _ at-outcome.before.parse.ensures at-outcome.ticket-outcome.ensures
-    at-report.report-on.ensures
+    ticket_call_gives _ _ _ at-outcome.before.parse.ensures at-outcome.ticket_outcome.ensures
+    at-report.report_on.ensures
 
 pub ticket_call_spec : {M : Type 1} → statement M
 ticket_call_spec =

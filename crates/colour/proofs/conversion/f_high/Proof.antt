@@ -9,7 +9,7 @@ use Rattle.colour.proofs.conversion.f_high.Tie as tie
 
 returns : tie.Need-returns
 unfolding f_high
-returns c = c.cube-root.ensures ∙ ap (root_of 3) c.before.fraction.ensures
+returns c = c.cube_root.ensures ∙ ap (root_of 3) c.before.fraction.ensures
 
 pub f_high_spec : {M : Type 1} → statement M
 f_high_spec = tie.close (tie.spec (λ c κs. search rules) (λ c κs. search rules) returns)

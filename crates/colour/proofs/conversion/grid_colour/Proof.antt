@@ -31,40 +31,40 @@ unfolding convert
 convert_is white c hl hx hy hz h_l ha hb = cc
 
 -- ---- the places that the answers speak of, seen from where L* is known
-module _ (c : tie.After-lightness-of) where
-  abbrev at_z : tie.After-f-of3
+module _ (c : tie.After-lightness_of-l) where
+  abbrev at_z : tie.After-f_of-fz
   at_z = c.before
 
-  abbrev at_y : tie.After-f-of2
+  abbrev at_y : tie.After-f_of-fy
   at_y = at_z.before
 
-  abbrev at_x : tie.After-f-of
+  abbrev at_x : tie.After-f_of-fx
   at_x = at_y.before
 
-  every : (at_x.f-of.result < 1229364) × ((at_y.f-of2.result < 1229364) × (at_z.f-of3.result < 1229364))
+  every : (at_x.f_of-fx.result < 1229364) × ((at_y.f_of-fy.result < 1229364) × (at_z.f_of-fz.result < 1229364))
   every = (
-    rw at_x.f-of.ensures (f_lt _ _ at_x.before.pre.X),
+    rw at_x.f_of-fx.ensures (f_lt _ _ at_x.before.requires.X),
     (
-      rw at_y.f-of2.ensures (f_lt _ _ at_x.before.pre.Y),
-      rw at_z.f-of3.ensures
-          (f_lt _ _ at_x.before.pre.Z),
+      rw at_y.f_of-fy.ensures (f_lt _ _ at_x.before.requires.Y),
+      rw at_z.f_of-fz.ensures
+          (f_lt _ _ at_x.before.requires.Z),
     ),
   )
 
-  l_le : c.lightness-of.result ≤ 125829120
-  l_le = rw c.lightness-of.ensures (lightness-le _ _ at_x.before.pre.Y)
+  l_le : c.lightness_of-l.result ≤ 125829120
+  l_le = rw c.lightness_of-l.ensures (lightness-le _ _ at_x.before.requires.Y)
 
-lightness-requires : tie.Need-lightness-of-requires
+lightness-requires : tie.Need-lightness_of-l-requires
 lightness-requires c κs =
-    let at_y = c.before in record { reach = at_y.before.before.requires.Y; is_f = at_y.f-of2.ensures }
+    let at_y = c.before in record { reach = at_y.before.before.requires.Y; is_f = at_y.f_of-fy.ensures }
 
-cast_t7 : tie.Need-overflow-cast-t7
+cast_t7 : tie.Need-overflow_cast-result
 cast_t7 c = record { sfits = omega (arith, l_le c) }
 
-a-requires : tie.Need-opponent-of-requires
+a-requires : tie.Need-opponent_of-requires
 a-requires c κs = record { times = omega arith; first = omega (arith, every c); second = omega (arith, every c) }
 
-b-requires : tie.Need-opponent-of-requires-2
+b-requires : tie.Need-opponent_of-requires-2
 b-requires c κs =
     record { times = omega arith; first = omega (arith, every c.before); second = omega (arith, every c.before) }
 
@@ -72,11 +72,11 @@ returns : tie.Need-returns
 returns c =
     let at_a = c.before in
     let at_l_lem = at_a.before in
-    let a_back : to_z w64 (of_z w64 at_a.opponent-of.result) ≡ at_a.opponent-of.result = search rules in
-    let b_back : to_z w64 (of_z w64 c.opponent-of2.result) ≡ c.opponent-of2.result = search rules in
-    convert_is _ _ at_l_lem.lightness-of.ensures (at_x at_l_lem).f-of.ensures (at_y at_l_lem).f-of2.ensures
-    (at_z at_l_lem).f-of3.ensures
-    (to_z_pos w64 (omega (arith, l_le at_l_lem))) (a_back ∙ at_a.opponent-of.ensures) (b_back ∙ c.opponent-of2.ensures)
+    let a_back : to_z w64 (of_z w64 at_a.opponent_of.result) ≡ at_a.opponent_of.result = search rules in
+    let b_back : to_z w64 (of_z w64 c.opponent_of-2.result) ≡ c.opponent_of-2.result = search rules in
+    convert_is _ _ at_l_lem.lightness_of-l.ensures (at_x at_l_lem).f_of-fx.ensures (at_y at_l_lem).f_of-fy.ensures
+    (at_z at_l_lem).f_of-fz.ensures
+    (to_z_pos w64 (omega (arith, l_le at_l_lem))) (a_back ∙ at_a.opponent_of.ensures) (b_back ∙ c.opponent_of-2.ensures)
 
 pub grid_colour_spec : {M : Type 1} → statement M
 grid_colour_spec =

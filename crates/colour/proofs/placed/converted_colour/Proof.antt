@@ -28,10 +28,10 @@ module _ (x y z : ℤ) (w : White) {X Y Z : ℕ} {v : TristimulusValues} (ex : X
   converted_is ec = cc
 
 module _ (c : tie.After-tristimulus) where
-  abbrev at_z : tie.After-magnitude3
+  abbrev at_z : tie.After-magnitude-3
   at_z = c.before
 
-  abbrev at_y : tie.After-magnitude2
+  abbrev at_y : tie.After-magnitude-2
   at_y = at_z.before
 
   abbrev at_x : tie.After-magnitude
@@ -40,13 +40,13 @@ module _ (c : tie.After-tristimulus) where
   x_is : at_x.magnitude.result ≡ ∣ at_x.before.args.x ∣
   x_is = rw (to_z-of_z at_x.before.fits.x) at at_x.magnitude.ensures
 
-  y_is : at_y.magnitude2.result ≡ ∣ at_x.before.args.y ∣
-  y_is = rw (to_z-of_z at_x.before.fits.y) at at_y.magnitude2.ensures
+  y_is : at_y.magnitude-2.result ≡ ∣ at_x.before.args.y ∣
+  y_is = rw (to_z-of_z at_x.before.fits.y) at at_y.magnitude-2.ensures
 
-  z_is : at_z.magnitude3.result ≡ ∣ at_x.before.args.z ∣
-  z_is = rw (to_z-of_z at_x.before.fits.z) at at_z.magnitude3.ensures
+  z_is : at_z.magnitude-3.result ≡ ∣ at_x.before.args.z ∣
+  z_is = rw (to_z-of_z at_x.before.fits.z) at at_z.magnitude-3.ensures
 
-grid-colour-requires : tie.Need-grid-colour-requires
+grid-colour-requires : tie.Need-grid_colour-requires
 grid-colour-requires c κs =
     let a = (at_x c).before.args in
     in_reach a.x a.y a.z a.white (x_is c) (y_is c) (z_is c) c.tristimulus.ensures (at_x c).before.requires
@@ -56,7 +56,7 @@ returns c =
     let w = c.before in
     let a = (at_x w).before.args in
     converted_is a.x a.y a.z a.white (x_is w) (y_is w) (z_is w) w.tristimulus.ensures
-    c.grid-colour.ensures
+    c.grid_colour.ensures
 
 pub converted_colour_spec : {M : Type 1} → statement M
 converted_colour_spec =

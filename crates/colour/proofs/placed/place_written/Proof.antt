@@ -10,34 +10,34 @@ use Rattle.colour.specs.Placed.Ways.{take_xyz_is, take_lab_is}
 use Rattle.colour.proofs.placed.place_written.Statement.{statement}
 use Rattle.colour.proofs.placed.place_written.Tie as tie
 
-place-xyz-requires : tie.Need-place-xyz-requires
+place-xyz-requires : tie.Need-place_xyz-requires
 place-xyz-requires c κs =
     let at_y = c.before in
     let at_x = at_y.before in
-    xyz-within decimal_units decimal-units-within _ _ _ at_x.decimal-units.ensures at_y.decimal-units2.ensures
-    c.decimal-units3.ensures
+    xyz-within decimal_units decimal-units-within _ _ _ at_x.decimal_units-u.ensures at_y.decimal_units-v.ensures
+    c.decimal_units-w.ensures
 
-xyz : tie.Need-returns
+xyz : tie.Need-returns-in-Xyz
 unfolding place_written
 xyz c =
     let at_z = c.before in
     let at_y = at_z.before in
     let at_x = at_y.before in
     let arm = at_x.before.before in
-    take_xyz_is decimal_units _ _ _ _ at_x.decimal-units.ensures at_y.decimal-units2.ensures
-    at_z.decimal-units3.ensures c.place-xyz.ensures
-    ∙ sym (ap (place_written _) arm.r.given.1)
+    take_xyz_is decimal_units _ _ _ _ at_x.decimal_units-u.ensures at_y.decimal_units-v.ensures
+    at_z.decimal_units-w.ensures c.place_xyz.ensures
+    ∙ sym (ap (place_written _) arm.r-1.given.1)
 
-lab : tie.Need-returns-2
+lab : tie.Need-returns-in-Lab
 unfolding place_written
 lab c =
     let at_b = c.before in
     let at_a = at_b.before in
     let at_l_lem = at_a.before in
     let arm = at_l_lem.before.before in
-    take_lab_is decimal_units _ _ _ at_l_lem.decimal-units4.ensures at_a.decimal-units5.ensures
-    at_b.decimal-units6.ensures c.place-lab.ensures
-    ∙ sym (ap (place_written _) arm.r2.given.1)
+    take_lab_is decimal_units _ _ _ at_l_lem.decimal_units-u-in-Lab.ensures at_a.decimal_units-v-in-Lab.ensures
+    at_b.decimal_units-w-in-Lab.ensures c.place_lab.ensures
+    ∙ sym (ap (place_written _) arm.r-in-Lab-1.given.1)
 
 pub place_written_spec : {M : Type 1} → statement M
 place_written_spec =

@@ -16,21 +16,21 @@ use Rattle.comparison.proofs.differences.total_of.Tie as tie
 squares-lt : {x y z : ℤ} → Components x y z → square x + square y + square z < 2 ^ 64
 squares-lt h = omega (arith, mul-le-mul h.L h.L, mul-le-mul h.C h.C, mul-le-mul h.H h.H)
 
-size_is : (c : tie.After-magnitude) → c.magnitude.result ≡ ∣ c.before.args.dh ∣
-size_is c = rw (to_z-of_z c.before.ranges.dh) at c.magnitude.ensures
+size_is : (c : tie.After-magnitude-m) → c.magnitude-m.result ≡ ∣ c.before.args.dh ∣
+size_is c = rw (to_z-of_z c.before.ranges.dh) at c.magnitude-m.ensures
 
 squares_is :
     (c : tie.After-squares) → let s = c.before.before.args in c.squares.result ≡ square s.dl + square s.dc
 squares_is c = let s = c.before.before in simp (to_z-of_z, s.ranges.dl, s.ranges.dc) at c.squares.ensures
 
 sum_lt :
-    (c : tie.After-squares) → c.squares.result + c.before.magnitude.result * c.before.magnitude.result < 2 ^ 64
+    (c : tie.After-squares) → c.squares.result + c.before.magnitude-m.result * c.before.magnitude-m.result < 2 ^ 64
 sum_lt c = rw (squares_is c, size_is c.before) (squares-lt c.before.before.requires)
 
 returns : tie.Need-returns
 unfolding total
 returns c =
-    c.square-root.ensures ∙ ap₂ (λ (x m : ℕ). root_of 2 (x + m * m)) (squares_is c.before)
+    c.square_root.ensures ∙ ap₂ (λ (x m : ℕ). root_of 2 (x + m * m)) (squares_is c.before)
     (size_is c.before.before)
 
 pub total_of_spec : {M : Type 1} → statement M

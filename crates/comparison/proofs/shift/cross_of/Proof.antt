@@ -13,8 +13,8 @@ unfolding cross
 returns c =
     let told = c.before.before in
     let (r, t) = told.before.before.before.requires in
-    let back : to_z w64 (of_z w64 c.less-products.result) ≡ c.less-products.result = search rules in
-    rw back (rw (a_back r, b_back r, a_back t, b_back t) at c.less-products.ensures)
+    let back : to_z w64 (of_z w64 c.less_products.result) ≡ c.less_products.result = search rules in
+    rw back (rw (a_back r, b_back r, a_back t, b_back t) at c.less_products.ensures)
 
 pub cross_of_spec : {M : Type 1} → statement M
 cross_of_spec = tie.close (tie.spec (λ c κs. search rules) returns)

@@ -21,12 +21,12 @@ use Rattle.comparison.proofs.shift.distance_squared.Tie as tie
     rw back (simp (to_z-of_z, s.ranges.at, s.ranges.ar) at c.less.ensures)
 
 Δb :
-    (c : tie.After-less2) → to_z w64 (of_z w64 c.less2.result)
+    (c : tie.After-less-2) → to_z w64 (of_z w64 c.less-2.result)
     ≡ c.before.before.args.bt -ℤ c.before.before.args.br
 Δb c =
     let s = c.before.before in
-    let back : to_z w64 (of_z w64 c.less2.result) ≡ c.less2.result = search rules in
-    rw back (simp (to_z-of_z, s.ranges.bt, s.ranges.br) at c.less2.ensures)
+    let back : to_z w64 (of_z w64 c.less-2.result) ≡ c.less-2.result = search rules in
+    rw back (simp (to_z-of_z, s.ranges.bt, s.ranges.br) at c.less-2.ensures)
 
 squares-requires : tie.Need-squares-requires
 squares-requires c κs =

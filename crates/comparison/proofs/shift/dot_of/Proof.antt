@@ -13,8 +13,8 @@ unfolding dot
 returns c =
     let told = c.before.before in
     let (r, t) = told.before.before.before.requires in
-    let back : to_z w64 (of_z w64 c.plus-products.result) ≡ c.plus-products.result = search rules in
-    rw back (rw (a_back r, b_back r, a_back t, b_back t) at c.plus-products.ensures)
+    let back : to_z w64 (of_z w64 c.plus_products.result) ≡ c.plus_products.result = search rules in
+    rw back (rw (a_back r, b_back r, a_back t, b_back t) at c.plus_products.ensures)
 
 pub dot_of_spec : {M : Type 1} → statement M
 dot_of_spec = tie.close (tie.spec (λ c κs. search rules) returns)

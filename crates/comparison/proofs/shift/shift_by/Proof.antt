@@ -13,21 +13,21 @@ use Rattle.comparison.proofs.shift.shift_by.Statement.{statement}
 use Rattle.comparison.proofs.shift.shift_by.Tie as tie
 
 -- ---- ΔL and ΔC, as the code has them
-module _ (c : tie.After-change-of2) where
+module _ (c : tie.After-change_of-dc) where
   abbrev start : tie.Start
   start = c.before.before
 
-  dl_is : to_z w64 (of_z w64 c.before.change-of.result) ≡ change start.args.lr start.args.lt
+  dl_is : to_z w64 (of_z w64 c.before.change_of-dl.result) ≡ change start.args.lr start.args.lt
   dl_is =
-      let back : to_z w64 (of_z w64 c.before.change-of.result) ≡ c.before.change-of.result = search rules in
-      back ∙ c.before.change-of.ensures
+      let back : to_z w64 (of_z w64 c.before.change_of-dl.result) ≡ c.before.change_of-dl.result = search rules in
+      back ∙ c.before.change_of-dl.ensures
 
-  dc_is : to_z w64 (of_z w64 c.change-of2.result) ≡ change start.args.cr start.args.ct
+  dc_is : to_z w64 (of_z w64 c.change_of-dc.result) ≡ change start.args.cr start.args.ct
   dc_is =
-      let back : to_z w64 (of_z w64 c.change-of2.result) ≡ c.change-of2.result = search rules in
-      back ∙ c.change-of2.ensures
+      let back : to_z w64 (of_z w64 c.change_of-dc.result) ≡ c.change_of-dc.result = search rules in
+      back ∙ c.change_of-dc.ensures
 
-hue-change-requires : tie.Need-hue-change-requires
+hue-change-requires : tie.Need-hue_change-dh-requires
 hue-change-requires c κs =
     let p = (start c).requires in
     rw (dc_is c) (change-le (2 ^ 31) (le_of_lt p.2) (le_of_lt p.3))
@@ -36,10 +36,10 @@ returns : tie.Need-returns
 returns c =
     let at_dc = c.before in
     let s = start at_dc in
-    let back : to_z w64 (of_z w64 c.hue-change.result) ≡ c.hue-change.result = search rules in
+    let back : to_z w64 (of_z w64 c.hue_change-dh.result) ≡ c.hue_change-dh.result = search rules in
     let dh_is =
     back
-    ∙ c.hue-change.ensures
+    ∙ c.hue_change-dh.ensures
     ∙ (λ i. hue_change s.args.d2 (dc_is at_dc i) (to_z-of_z s.fits.x i) (to_z-of_z s.fits.y i))
     in
     λ i. record { L = dl_is at_dc i; C = dc_is at_dc i; H = dh_is i }

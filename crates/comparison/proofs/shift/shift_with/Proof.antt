@@ -36,29 +36,29 @@ unfolding shift
 shift_is r t hlr hlt hcr hct hd hx hy hz = rw (hz, hlr, hlt, hcr, hct, hd, hx, hy, at_places_20 r, at_places_20 t)
 
 -- ---- the lightnesses and D², as the code has them
-module _ (c : tie.After-distance-squared) where
-  abbrev at_test : tie.After-magnitude2
+module _ (c : tie.After-distance_squared-d2) where
+  abbrev at_test : tie.After-magnitude-lt
   at_test = c.before.before.before.before.before
 
-  abbrev at_reference_lem : tie.After-magnitude
+  abbrev at_reference_lem : tie.After-magnitude-lr
   at_reference_lem = at_test.before.before
 
   abbrev start : tie.Start
   start = at_reference_lem.before.before
 
-  lr_is : at_reference_lem.magnitude.result ≡ ∣ start.args.r.L.0 ∣
-  lr_is = at_reference_lem.magnitude.ensures ∙ ap (λ (z : ℤ). ∣ z ∣) (L_back start.pre.R)
+  lr_is : at_reference_lem.magnitude-lr.result ≡ ∣ start.args.r.L.0 ∣
+  lr_is = at_reference_lem.magnitude-lr.ensures ∙ ap (λ (z : ℤ). ∣ z ∣) (L_back start.requires.R)
 
-  lt_is : at_test.magnitude2.result ≡ ∣ start.args.t.L.0 ∣
-  lt_is = at_test.magnitude2.ensures ∙ ap (λ (z : ℤ). ∣ z ∣) (L_back start.pre.T)
+  lt_is : at_test.magnitude-lt.result ≡ ∣ start.args.t.L.0 ∣
+  lt_is = at_test.magnitude-lt.ensures ∙ ap (λ (z : ℤ). ∣ z ∣) (L_back start.requires.T)
 
   d2_is :
-      let s = start.args in c.distance-squared.result ≡ distance² s.r.a.0 s.r.b.0 s.t.a.0 s.t.b.0
+      let s = start.args in c.distance_squared-d2.result ≡ distance² s.r.a.0 s.r.b.0 s.t.a.0 s.t.b.0
   d2_is =
-      let p = start.pre in
-      rw (a_back p.R, b_back p.R, a_back p.T, b_back p.T) at c.distance-squared.ensures
+      let p = start.requires in
+      rw (a_back p.R, b_back p.R, a_back p.T, b_back p.T) at c.distance_squared-d2.ensures
 
-shift-by-requires : tie.Need-shift-by-requires
+shift-by-requires : tie.Need-shift_by-requires
 shift-by-requires c κs =
     let p = (start c).requires in (
       rw (lr_is c) (omega (arith, p.R.L)),
@@ -71,7 +71,7 @@ returns : tie.Need-returns
 returns c =
     let at-d2 = c.before in
     let s = start at-d2 in
-    let p = s.pre in
+    let p = s.requires in
     shift_is _ _ (lr_is at-d2) (lt_is at-d2) p.CR p.CT (d2_is at-d2) (to_z-of_z s.fits.x ∙ p.cross)
     (to_z-of_z s.fits.y ∙ p.dot)
     c.shift_by_lem.ensures

@@ -4,13 +4,13 @@ use Rattle.delivery.specs.Farthest.{farther_of}
 use Rattle.delivery.proofs.farthest.farther.Statement.{statement}
 use Rattle.delivery.proofs.farthest.farther.Tie as tie
 
-next : tie.Need-returns
+next : tie.Need-returns-then-f-d
 unfolding farther_of
-next c = rw (lt-ltb _ _ c.if1.true)
+next c = rw (lt-ltb _ _ c.if-f-d.true)
 
-kept : tie.Need-returns-2
+kept : tie.Need-returns-else-f-d
 unfolding farther_of
-kept c = rw (le-ltb _ _ c.if1.false)
+kept c = rw (le-ltb _ _ c.if-f-d.false)
 
 pub farther_spec : {M : Type 1} → statement M
 farther_spec = tie.close (tie.spec next kept)

@@ -14,7 +14,7 @@ returns : tie.Need-returns
 returns c =
     let start = c.before.before in
     let small : start.args.d < 2 ^ 63 = omega (arith, start.requires) in
-    c.value.ensures ∙ ap (λ (g : Grid). value_of g.0) c.before.of-units.ensures
+    c.value.ensures ∙ ap (λ (g : Grid). value_of g.0) c.before.of_units.ensures
     ∙ ap value_of (to_z_pos w64 small)
 
 pub figure_of_spec : {M : Type 1} → statement M

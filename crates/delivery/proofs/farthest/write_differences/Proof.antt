@@ -12,60 +12,60 @@ use Rattle.delivery.specs.Room.Laws.{difference_at}
 use Rattle.delivery.proofs.farthest.write_differences.Statement.{statement}
 use Rattle.delivery.proofs.farthest.write_differences.Tie as tie
 
-abbrev invariant-loop : tie.invariant-loop
+abbrev invariant-loop : tie.invariant-loop-i
 invariant-loop kind white l c mean xs ys zs de₀ far₀ i₀ de far i =
     Setting (differences_from l c mean (colours_in white (readings_of kind xs ys zs))) de₀ i de far
 
-abbrev decreases-loop : tie.decreases-loop
+abbrev decreases-loop : tie.decreases-loop-i
 decreases-loop kind white l c mean xs ys zs de₀ far₀ i₀ de far i = length xs - i
 
-loop-holds : tie.Need-loop-init invariant-loop decreases-loop
+loop-holds : tie.Need-loop-i-init invariant-loop decreases-loop
 loop-holds c = setting_none _ _ (room-enough c.before.before.before.before.requires)
 
 -- ---- a turn
-module _ (c : tie.In-loop invariant-loop decreases-loop) where
-  abbrev head : tie.At-loop invariant-loop decreases-loop
+module _ (c : tie.In-loop-i invariant-loop decreases-loop) where
+  abbrev head : tie.At-loop-i invariant-loop decreases-loop
   head = c.before
 
   abbrev start : tie.Start invariant-loop decreases-loop
   start = head.before.before.before.before.before
 
-  in_slice : head.loop.i < length head.loop.de
-  in_slice = omega (arith, head.loop.inv.writing.same_length, c.loop-test.true, start.pre.enough)
+  in_slice : head.loop-i.i < length head.loop-i.de
+  in_slice = omega (arith, head.loop-i.inv.writing.same_length, c.loop-i-test.true, start.requires.enough)
 
-colour-at-requires : tie.Need-colour-at-requires invariant-loop decreases-loop
+colour-at-requires : tie.Need-colour_at-cone-requires invariant-loop decreases-loop
 colour-at-requires c κs =
-    ((start c).requires.even, has-colour (start c).requires (head c).loop.i c.loop-test.true)
+    ((start c).requires.even, has-colour (start c).requires (head c).loop-i.i c.loop-i-test.true)
 
-difference-from-requires : tie.Need-difference-from-requires invariant-loop decreases-loop
+difference-from-requires : tie.Need-difference_from-d-requires invariant-loop decreases-loop
 difference-from-requires c κs =
     let turn = c.before in
-    cone_in_range (start turn).requires (head turn).loop.i turn.loop-test.true c.colour-at.ensures
+    cone_in_range (start turn).requires (head turn).loop-i.i turn.loop-i-test.true c.colour_at-cone.ensures
 
-figure-of-requires : tie.Need-figure-of-requires invariant-loop decreases-loop
+figure-of-requires : tie.Need-figure_of-requires invariant-loop decreases-loop
 figure-of-requires c κs =
     let at_colour = c.before in
     let turn = at_colour.before in
-    difference-small (start turn).requires (head turn).loop.i turn.loop-test.true at_colour.colour-at.ensures
-    c.difference-from.ensures
+    difference-small (start turn).requires (head turn).loop-i.i turn.loop-i-test.true at_colour.colour_at-cone.ensures
+    c.difference_from-d.ensures
 
-loop-again : tie.Need-loop-preserved invariant-loop decreases-loop
+loop-again : tie.Need-loop-i-preserved invariant-loop decreases-loop
 loop-again c =
     let at-figure = c.before in
     let at-difference = at-figure.before in
     let at_colour = at-difference.before in
     let turn = at_colour.before in
     let room = (start turn).requires in
-    setting_more _ _ (room-enough room) (head turn).loop.invariant _ (rw (room-count room) turn.loop-test.true)
-    (difference_at room (head turn).loop.i turn.loop-test.true at_colour.colour-at.ensures
-    at-difference.difference-from.ensures)
-    at-figure.figure-of.ensures c.farther.ensures
+    setting_more _ _ (room-enough room) (head turn).loop-i.invariant _ (rw (room-count room) turn.loop-i-test.true)
+    (difference_at room (head turn).loop-i.i turn.loop-i-test.true at_colour.colour_at-cone.ensures
+    at-difference.difference_from-d.ensures)
+    at-figure.figure_of.ensures c.farther-far.ensures
 
 returns : tie.Need-returns invariant-loop decreases-loop
 returns c =
     let head = c.before in
     let room = head.before.before.before.before.before.requires in
-    setting_all _ _ (room-enough room) head.loop.invariant (rw (room-count room) c.loop-test.false)
+    setting_all _ _ (room-enough room) head.loop-i.invariant (rw (room-count room) c.loop-i-test.false)
 
 pub write_differences_spec : {M : Type 1} → statement M
 write_differences_spec =
@@ -84,5 +84,5 @@ write_differences_spec =
     (λ c. search rules)
     (λ c. search rules)
     loop-again
-    (λ c. c.before.loop.invariant.writing.same_length)
+    (λ c. c.before.loop-i.invariant.writing.same_length)
     returns)

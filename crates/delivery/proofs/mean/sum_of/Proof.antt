@@ -17,26 +17,26 @@ use Rattle.delivery.specs.Sums.Laws.{SumsAre, no_sums, one_more_sum, sums_at_mos
 use Rattle.delivery.proofs.mean.sum_of.Statement.{statement}
 use Rattle.delivery.proofs.mean.sum_of.Tie as tie
 
-abbrev invariant-loop : tie.invariant-loop
+abbrev invariant-loop : tie.invariant-loop-i
 invariant-loop kind white xs ys zs sums₀ i₀ sums i = PassedCones (turn_in white) kind xs ys zs i (SumsAre sums)
 
-abbrev decreases-loop : tie.decreases-loop
+abbrev decreases-loop : tie.decreases-loop-i
 decreases-loop kind white xs ys zs sums₀ i₀ sums i = length xs - i
 
-loop-holds : tie.Need-loop-init invariant-loop decreases-loop
+loop-holds : tie.Need-loop-i-init invariant-loop decreases-loop
 loop-holds c =
     let start = c.before.before.before in
     no_cones (turn_in start.args.white) start.args.kind _ _ _ no_sums
 
 -- ---- a cone placed
-module _ (c : tie.After-place-reading invariant-loop decreases-loop) where
-  abbrev at_reading : tie.After-reading-at invariant-loop decreases-loop
+module _ (c : tie.After-place_reading-p invariant-loop decreases-loop) where
+  abbrev at_reading : tie.After-reading_at invariant-loop decreases-loop
   at_reading = c.before
 
-  abbrev turn : tie.In-loop invariant-loop decreases-loop
+  abbrev turn : tie.In-loop-i invariant-loop decreases-loop
   turn = at_reading.before
 
-  abbrev head : tie.At-loop invariant-loop decreases-loop
+  abbrev head : tie.At-loop-i invariant-loop decreases-loop
   head = turn.before
 
   abbrev start : tie.Start invariant-loop decreases-loop
@@ -45,51 +45,51 @@ module _ (c : tie.After-place-reading invariant-loop decreases-loop) where
   abbrev white : White
   white = start.args.white
 
-reading-at-requires : tie.Need-reading-at-requires invariant-loop decreases-loop
-reading-at-requires c κs = (c.before.before.before.before.before.requires.even, c.loop-test.true)
+reading-at-requires : tie.Need-reading_at-requires invariant-loop decreases-loop
+reading-at-requires c κs = (c.before.before.before.before.before.requires.even, c.loop-i-test.true)
 
 -- ---- an accepted cone
-module _ (c : tie.After-known-told invariant-loop decreases-loop) where
-  abbrev at_place : tie.After-place-reading invariant-loop decreases-loop
+module _ (c : tie.In-At invariant-loop decreases-loop) where
+  abbrev at_place : tie.After-place_reading-p invariant-loop decreases-loop
   at_place = c.before.before.before
 
   abbrev colour : GridColour
-  colour = c.before.p.given.0.0
+  colour = c.before.p-1.given.0.0
 
   on_grid_lem : OnGrid colour
-  on_grid_lem = place_on_grid (white at_place) _ colour (sym at_place.place-reading.ensures ∙ c.before.p.given.1)
+  on_grid_lem = place_on_grid (white at_place) _ colour (sym at_place.place_reading-p.ensures ∙ c.before.p-1.given.1)
 
-  few : length (head at_place).loop.inv.so_far ≤ 256
-  few = omega (arith, (head at_place).loop.inv.count, (turn at_place).loop-test.taken, (start at_place).pre.few)
+  few : length (head at_place).loop-i.inv.so_far ≤ 256
+  few = omega (arith, (head at_place).loop-i.inv.count, (turn at_place).loop-i-test.taken, (start at_place).requires.few)
 
-with-colour-requires : tie.Need-with-colour-requires invariant-loop decreases-loop
+with-colour-requires : tie.Need-with_colour-sums-requires invariant-loop decreases-loop
 with-colour-requires c κs =
-    record { sums = sums_at_most (head (at_place c)).loop.inv.holds (few c); colour = on_grid_lem c }
+    record { sums = sums_at_most (head (at_place c)).loop-i.inv.holds (few c); colour = on_grid_lem c }
 
-loop-again : tie.Need-loop-preserved invariant-loop decreases-loop
+loop-again : tie.Need-loop-i-preserved invariant-loop decreases-loop
 loop-again c =
     let told = c.before in
     let p = at_place told in
-    one_more_cone (turn_in (white p)) (start p).args.kind _ _ _ (start p).pre.even (head p).loop.inv
-    (turn p).loop-test.taken (at_reading p).reading-at.ensures (colour told)
-    (ap placed_turn (sym p.place-reading.ensures ∙ told.before.p.given.1))
-    (λ us n h. one_more_sum (on_grid_lem told) c.with-colour.ensures us h)
+    one_more_cone (turn_in (white p)) (start p).args.kind _ _ _ (start p).requires.even (head p).loop-i.inv
+    (turn p).loop-i-test.taken (at_reading p).reading_at.ensures (colour told)
+    (ap placed_turn (sym p.place_reading-p.ensures ∙ told.before.p-1.given.1))
+    (λ us n h. one_more_sum (on_grid_lem told) c.with_colour-sums.ensures us h)
 
-refused : tie.Need-returns invariant-loop decreases-loop
+refused : tie.Need-returns-in-Refused invariant-loop decreases-loop
 refused c =
     let p = c.before.before.before in
     sym (ap summed
-    (cone-refused (turn_in (white p)) (start p).args.kind _ _ _ (start p).requires.even (head p).loop.invariant
-    (turn p).loop-test.true (at_reading p).reading-at.ensures
-    (ap placed_turn (sym p.place-reading.ensures ∙ c.before.p2.given.1))))
+    (cone-refused (turn_in (white p)) (start p).args.kind _ _ _ (start p).requires.even (head p).loop-i.invariant
+    (turn p).loop-i-test.true (at_reading p).reading_at.ensures
+    (ap placed_turn (sym p.place_reading-p.ensures ∙ c.before.p-in-Refused-1.given.1))))
 
-accepted : tie.Need-returns-2 invariant-loop decreases-loop
+accepted : tie.Need-returns invariant-loop decreases-loop
 accepted c =
     let head = c.before in
     let start = head.before.before.before.before in
     let all =
-    all_cones (turn_in start.args.white) start.args.kind _ _ _ start.requires.even head.loop.invariant
-    c.loop-test.false in
+    all_cones (turn_in start.args.white) start.args.kind _ _ _ start.requires.even head.loop-i.invariant
+    c.loop-i-test.false in
     ap Of all.holds.is ∙ sym (ap summed all.is)
 
 pub sum_of_spec : {M : Type 1} → statement M

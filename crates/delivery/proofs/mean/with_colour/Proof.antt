@@ -9,21 +9,21 @@ use Rattle.delivery.proofs.mean.with_colour.Tie as tie
 lightness-le : (c : tie.Start) → ∣ c.args.c.L.0 ∣ ≤ 256 * 2 ^ 20
 lightness-le c = omega (arith, c.requires.colour.L)
 
-lightness : tie.Need-overflow-add-t3
+lightness : tie.Need-overflow_add-result
 lightness c =
     let start = c.before.before.before.before in
     adds_fits start.args.s.L start.args.c.L.0 start.requires.sums.L (lightness-le start)
 
-red : tie.Need-overflow-add-t4
+red : tie.Need-overflow_add-result-2
 red c =
     let start = c.before.before.before.before.before.before.before.before in
     adds_fits start.args.s.a start.args.c.a.0 start.requires.sums.a start.requires.colour.a
 
-module _ (c : tie.After-struct-told6) where
+module _ (c : tie.After-struct_told-6-1) where
   abbrev start : tie.Start
   start = c.before.before.before.before.before.before.before.before.before.before.before.before
 
-yellow : tie.Need-overflow-add-t5
+yellow : tie.Need-overflow_add-result-3
 yellow c =
     let s = (start c).args in
     adds_fits s.s.b s.c.b.0 (start c).requires.sums.b (start c).requires.colour.b

@@ -6,13 +6,13 @@ use Rattle.delivery.specs.Sorted.{are_factors}
 use Rattle.delivery.proofs.sorted.are_factors.Statement.{statement}
 use Rattle.delivery.proofs.sorted.are_factors.Tie as tie
 
-l_out : tie.Need-returns
+l_out : tie.Need-returns-then-not-is_factor
 unfolding are_factors
-l_out c = rw (sym c.before.is-factor.ensures ∙ not-true _ c.if1.true)
+l_out c = rw (sym c.before.is_factor.ensures ∙ not-true _ c.if-not-is_factor.true)
 
-last : tie.Need-returns-2
+last : tie.Need-returns
 unfolding are_factors
-last c = rw (sym c.before.before.is-factor.ensures ∙ not-false _ c.before.if1.false) c.is-factor2.ensures
+last c = rw (sym c.before.before.is_factor.ensures ∙ not-false _ c.before.if-not-is_factor.false) c.is_factor-2.ensures
 
 pub are_factors_spec : {M : Type 1} → statement M
 are_factors_spec = tie.close (tie.spec (λ c κs. search rules) l_out (λ c κs. search rules) last)

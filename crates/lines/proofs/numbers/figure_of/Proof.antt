@@ -42,7 +42,7 @@ returns c =
     let a = c.before.args in
     let shows : Bool → Bool = λ b. b && ltb 0 (whole a.m + rounded_rest a.m) in
     figure_is a.below a.m
-    (⊎_elim (λ w. w.1 ∙ sym (ap shows w.0.taken)) (λ w. w.1 ∙ sym (ap shows w.0.left)) c.if1.branch)
+    (⊎_elim (λ w. w.1 ∙ sym (ap shows w.0.taken)) (λ w. w.1 ∙ sym (ap shows w.0.left)) c.if-below.branch)
 
 pub figure_of_spec : {M : Type 1} → statement M
 figure_of_spec =

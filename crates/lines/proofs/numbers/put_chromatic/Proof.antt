@@ -11,40 +11,40 @@ use Rattle.lines.proofs.numbers.put_chromatic.Tie as tie
 abbrev pieces : List ℕ → List (List ℕ)
 pieces key = key ∷ ascii "withheld\n" ∷ []
 
-put-requires : tie.Need-put-requires
+put-requires : tie.Need-put-after_key-requires
 unfolding line
 put-requires c κs =
     let arm = c.before in
     let start = arm.before.before.before in
-    room_first (room_for_all (pieces _) (rw arm.if1.true at start.requires))
+    room_first (room_for_all (pieces _) (rw arm.if-withheld.true at start.requires))
 
-put_requires_2 : tie.Need-put-requires-2
+put_requires_2 : tie.Need-put-requires
 unfolding line
 put_requires_2 c κs =
     let key = c.before.before.before.before in
     let arm = key.before.before in
     let start = arm.before.before.before in
-    room-second (room_for_all (pieces _) (rw arm.if1.true at start.requires)) key.put.ensures
+    room-second (room_for_all (pieces _) (rw arm.if-withheld.true at start.requires)) key.put-after_key.ensures
 
-withheld : tie.Need-returns
+withheld : tie.Need-returns-then-withheld
 unfolding line
 withheld c =
     let word = c.before.before in
     let key = word.before.before.before.before.before in
     let arm = key.before.before in
     let start = arm.before.before.before in
-    let row = room_for_all (pieces _) (rw arm.if1.true at start.requires) in
-    rw arm.if1.true (puts_joined (puts_two row key.put.ensures word.put2.ensures))
+    let row = room_for_all (pieces _) (rw arm.if-withheld.true at start.requires) in
+    rw arm.if-withheld.true (puts_joined (puts_two row key.put-after_key.ensures word.put.ensures))
 
-put-number-requires : tie.Need-put-number-requires
+put-number-requires : tie.Need-put_number-requires
 put-number-requires c κs =
     let arm = c.before in
-    rw arm.if1.false at arm.before.before.before.requires
+    rw arm.if-withheld.false at arm.before.before.before.requires
 
-shown : tie.Need-returns-2
+shown : tie.Need-returns
 shown c =
     let number = c.before.before in
-    rw number.before.before.if1.false number.put-number.ensures
+    rw number.before.before.if-withheld.false number.put_number.ensures
 
 pub put_chromatic_spec : {M : Type 1} → statement M
 put_chromatic_spec =

@@ -13,27 +13,27 @@ use Rattle.lines.proofs.numbers.put_number.Tie as tie
 abbrev pieces : List ℕ → Shown → List (List ℕ)
 pieces key d = key ∷ decimal_text d ∷ ascii "\n" ∷ []
 
-put-requires : tie.Need-put-requires
+put-requires : tie.Need-put-after_key-requires
 unfolding line
 put-requires c κs =
     let start = c.before.before.before in
     room_first (room_for_all (pieces start.args.key.now start.args.d) start.requires)
 
-put-decimal-requires : tie.Need-put-decimal-requires
+put-decimal-requires : tie.Need-put_decimal-after_number-requires
 unfolding line
 put-decimal-requires c κs =
     let key = c.before.before.before in
     let start = key.before.before.before.before in
-    room-second (room_for_all (pieces start.args.key.now start.args.d) start.requires) key.put.ensures
+    room-second (room_for_all (pieces start.args.key.now start.args.d) start.requires) key.put-after_key.ensures
 
-put_requires_2 : tie.Need-put-requires-2
+put_requires_2 : tie.Need-put-requires
 unfolding line
 put_requires_2 c κs =
     let number = c.before.before.before.before in
     let key = number.before.before.before.before in
     let start = key.before.before.before.before in
     let row = room_for_all (pieces start.args.key.now start.args.d) start.requires in
-    room-third row key.put.ensures number.put-decimal.ensures
+    room-third row key.put-after_key.ensures number.put_decimal-after_number.ensures
 
 returns : tie.Need-returns
 unfolding line
@@ -43,7 +43,7 @@ returns c =
     let key = number.before.before.before.before in
     let start = key.before.before.before.before in
     let row = room_for_all (pieces start.args.key.now start.args.d) start.requires in
-    puts_joined (puts_three row key.put.ensures number.put-decimal.ensures end.put2.ensures)
+    puts_joined (puts_three row key.put-after_key.ensures number.put_decimal-after_number.ensures end.put.ensures)
 
 pub put_number_spec : {M : Type 1} → statement M
 put_number_spec =

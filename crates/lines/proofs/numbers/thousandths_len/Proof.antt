@@ -6,7 +6,7 @@ use Rattle.lines.proofs.numbers.thousandths_len.Tie as tie
 returns : tie.Need-returns
 returns c =
     let at-shown = c.before in
-    rw at-shown.thousandths-of.ensures at c.decimal-len.ensures
+    rw at-shown.thousandths_of.ensures at c.decimal_len.ensures
 
 pub thousandths_len_spec : {M : Type 1} → statement M
 thousandths_len_spec = tie.close (tie.spec (λ c κs. search rules) (λ c κs. search rules) returns)

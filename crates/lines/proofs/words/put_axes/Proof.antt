@@ -6,30 +6,30 @@ use Rattle.lines.specs.Lines.Laws.{axes_pieces}
 use Rattle.lines.proofs.words.put_axes.Statement.{statement}
 use Rattle.lines.proofs.words.put_axes.Tie as tie
 
-name-requires : tie.Need-put-axis-requires
+name-requires : tie.Need-put_axis-after_name-requires
 name-requires c κs =
     let key = c.before.before.before in
     let start = key.before.before.before.before in
-    room-second (room_for_all (axes_pieces start.args.name start.args.bracket) start.requires) key.put.ensures
+    room-second (room_for_all (axes_pieces start.args.name start.args.bracket) start.requires) key.put-after_key.ensures
 
-paren-requires : tie.Need-put-requires-2
+paren-requires : tie.Need-put-after_open-requires
 paren-requires c κs =
     let name = c.before.before.before.before in
     let key = name.before.before.before.before in
     let start = key.before.before.before.before in
     let row = room_for_all (axes_pieces start.args.name start.args.bracket) start.requires in
-    room-third row key.put.ensures name.put-axis.ensures
+    room-third row key.put-after_key.ensures name.put_axis-after_name.ensures
 
-bracket-requires : tie.Need-put-axis-requires-2
+bracket-requires : tie.Need-put_axis-after_bracket-requires
 bracket-requires c κs =
     let paren = c.before.before.before in
     let name = paren.before.before.before.before.before in
     let key = name.before.before.before.before in
     let start = key.before.before.before.before in
     let row = room_for_all (axes_pieces start.args.name start.args.bracket) start.requires in
-    room-fourth row key.put.ensures name.put-axis.ensures paren.put2.ensures
+    room-fourth row key.put-after_key.ensures name.put_axis-after_name.ensures paren.put-after_open.ensures
 
-end-requires : tie.Need-put-requires-3
+end-requires : tie.Need-put-requires
 end-requires c κs =
     let bracket = c.before.before.before.before in
     let paren = bracket.before.before.before.before in
@@ -37,8 +37,8 @@ end-requires c κs =
     let key = name.before.before.before.before in
     let start = key.before.before.before.before in
     let row =
-    room-rest (room_for_all (axes_pieces start.args.name start.args.bracket) start.requires) key.put.ensures in
-    room-fourth row name.put-axis.ensures paren.put2.ensures bracket.put-axis2.ensures
+    room-rest (room_for_all (axes_pieces start.args.name start.args.bracket) start.requires) key.put-after_key.ensures in
+    room-fourth row name.put_axis-after_name.ensures paren.put-after_open.ensures bracket.put_axis-after_bracket.ensures
 
 returns : tie.Need-returns
 returns c =
@@ -49,10 +49,10 @@ returns c =
     let key = name.before.before.before.before in
     let start = key.before.before.before.before in
     let all = room_for_all (axes_pieces start.args.name start.args.bracket) start.requires in
-    let row = room-rest all key.put.ensures in
+    let row = room-rest all key.put-after_key.ensures in
     let four =
-    puts_four row name.put-axis.ensures paren.put2.ensures bracket.put-axis2.ensures end.put3.ensures in
-    puts_joined (puts_more all key.put.ensures four)
+    puts_four row name.put_axis-after_name.ensures paren.put-after_open.ensures bracket.put_axis-after_bracket.ensures end.put.ensures in
+    puts_joined (puts_more all key.put-after_key.ensures four)
 
 pub put_axes_spec : {M : Type 1} → statement M
 put_axes_spec =

@@ -12,29 +12,29 @@ put_axis_spec =
     (tie.spec
     (λ c. search rules)
     (λ c. refl)
-    (λ c κs. let arm = c.before.before in room_in_arm axis_word arm.enum_told.given.1
+    (λ c κs. let arm = c.before.before in room_in_arm axis_word arm.enum_told-1.given.1
     arm.before.before.before.requires)
     (λ c. search rules)
     (λ c. refl)
-    (λ c κs. let arm = c.before.before in room_in_arm axis_word arm.enum-told2.given.1
+    (λ c κs. let arm = c.before.before in room_in_arm axis_word arm.enum_told-in-Yellower-1.given.1
     arm.before.before.before.requires)
     (λ c. search rules)
     (λ c. refl)
-    (λ c κs. let arm = c.before.before in room_in_arm axis_word arm.enum-told3.given.1
+    (λ c κs. let arm = c.before.before in room_in_arm axis_word arm.enum_told-in-Greener-1.given.1
     arm.before.before.before.requires)
     (λ c. search rules)
     (λ c. refl)
-    (λ c κs. let arm = c.before.before in room_in_arm axis_word arm.enum-told4.given.1
+    (λ c κs. let arm = c.before.before in room_in_arm axis_word arm.enum_told-in-Bluer-1.given.1
     arm.before.before.before.requires)
     (λ c. search rules)
-    (λ c. let put = c.before.before in puts_in_arm axis_word put.before.before.before.enum_told.given.1
+    (λ c. let put = c.before.before in puts_in_arm axis_word put.before.before.before.enum_told-1.given.1
     put.put.ensures)
     (λ c. search rules)
-    (λ c. let put = c.before.before in puts_in_arm axis_word put.before.before.before.enum-told2.given.1
-    put.put2.ensures)
+    (λ c. let put = c.before.before in puts_in_arm axis_word put.before.before.before.enum_told-in-Yellower-1.given.1
+    put.put-in-Yellower.ensures)
     (λ c. search rules)
-    (λ c. let put = c.before.before in puts_in_arm axis_word put.before.before.before.enum-told3.given.1
-    put.put3.ensures)
+    (λ c. let put = c.before.before in puts_in_arm axis_word put.before.before.before.enum_told-in-Greener-1.given.1
+    put.put-in-Greener.ensures)
     (λ c. search rules)
-    (λ c. let put = c.before.before in puts_in_arm axis_word put.before.before.before.enum-told4.given.1
-    put.put4.ensures))
+    (λ c. let put = c.before.before in puts_in_arm axis_word put.before.before.before.enum_told-in-Bluer-1.given.1
+    put.put-in-Bluer.ensures))

@@ -11,39 +11,39 @@ put_chroma_spec =
     tie.close
     (tie.spec
     (λ c. refl)
-    (λ c κs. let arm = c.before.before in rw arm.if1.true at arm.before.before.requires)
+    (λ c κs. let arm = c.before.before in rw arm.if-withheld.true at arm.before.before.requires)
     (λ c. search rules)
-    (λ c. let put = c.before.before in rw put.before.before.before.if1.true put.put.ensures)
-    (λ c. search rules)
-    (λ c. refl)
-    (λ c κs.
-    let arm = c.before.before in
-    let shown = arm.before.before in
-    rw (shown.if1.false, arm.enum_told.given.1) at shown.before.before.requires)
+    (λ c. let put = c.before.before in rw put.before.before.before.if-withheld.true put.put.ensures)
     (λ c. search rules)
     (λ c. refl)
     (λ c κs.
     let arm = c.before.before in
     let shown = arm.before.before in
-    rw (shown.if1.false, arm.enum-told2.given.1) at shown.before.before.requires)
+    rw (shown.if-withheld.false, arm.enum_told-1.given.1) at shown.before.before.requires)
     (λ c. search rules)
     (λ c. refl)
     (λ c κs.
     let arm = c.before.before in
     let shown = arm.before.before in
-    rw (shown.if1.false, arm.enum-told3.given.1) at shown.before.before.requires)
+    rw (shown.if-withheld.false, arm.enum_told-in-Less-1.given.1) at shown.before.before.requires)
+    (λ c. search rules)
+    (λ c. refl)
+    (λ c κs.
+    let arm = c.before.before in
+    let shown = arm.before.before in
+    rw (shown.if-withheld.false, arm.enum_told-in-Equal-1.given.1) at shown.before.before.requires)
     (λ c. search rules)
     (λ c.
     let put = c.before.before in
     let arm = put.before.before.before in
-    rw (arm.before.before.if1.false, arm.enum_told.given.1) put.put2.ensures)
+    rw (arm.before.before.if-withheld.false, arm.enum_told-1.given.1) put.put-in-More.ensures)
     (λ c. search rules)
     (λ c.
     let put = c.before.before in
     let arm = put.before.before.before in
-    rw (arm.before.before.if1.false, arm.enum-told2.given.1) put.put3.ensures)
+    rw (arm.before.before.if-withheld.false, arm.enum_told-in-Less-1.given.1) put.put-in-Less.ensures)
     (λ c. search rules)
     (λ c.
     let put = c.before.before in
     let arm = put.before.before.before in
-    rw (arm.before.before.if1.false, arm.enum-told3.given.1) put.put4.ensures))
+    rw (arm.before.before.if-withheld.false, arm.enum_told-in-Equal-1.given.1) put.put-in-Equal.ensures))

@@ -7,19 +7,19 @@ use Rattle.lines.specs.Lines.Laws.{hue-axes}
 use Rattle.lines.proofs.words.put_hue.Statement.{statement}
 use Rattle.lines.proofs.words.put_hue.Tie as tie
 
-axes-requires : tie.Need-put-axes-requires
+axes-requires : tie.Need-put_axes-requires
 axes-requires c κs =
     let arm = c.before.before in
     let shown = arm.before.before in
-    room_as (hue-axes arm.x.given.0.0 arm.x.given.0.1.0)
-    (rw (shown.if1.false, arm.x.given.1) at shown.before.before.requires)
+    room_as (hue-axes arm.x-1.given.0.0 arm.x-1.given.0.1.0)
+    (rw (shown.if-withheld.false, arm.x-1.given.1) at shown.before.before.requires)
 
-axes : tie.Need-returns-3
+axes : tie.Need-returns-in-Towards
 axes c =
     let put = c.before.before in
     let arm = put.before.before.before in
-    rw (arm.before.before.if1.false, arm.x.given.1)
-    (puts_as (sym (hue-axes arm.x.given.0.0 arm.x.given.0.1.0)) put.put-axes.ensures)
+    rw (arm.before.before.if-withheld.false, arm.x-1.given.1)
+    (puts_as (sym (hue-axes arm.x-1.given.0.0 arm.x-1.given.0.1.0)) put.put_axes.ensures)
 
 pub put_hue_spec : {M : Type 1} → statement M
 unfolding line
@@ -27,21 +27,21 @@ put_hue_spec =
     tie.close
     (tie.spec
     (λ c. refl)
-    (λ c κs. let arm = c.before.before in rw arm.if1.true at arm.before.before.requires)
+    (λ c κs. let arm = c.before.before in rw arm.if-withheld.true at arm.before.before.requires)
     (λ c. search rules)
-    (λ c. let put = c.before.before in rw put.before.before.before.if1.true put.put.ensures)
+    (λ c. let put = c.before.before in rw put.before.before.before.if-withheld.true put.put.ensures)
     (λ c. search rules)
     (λ c. refl)
     (λ c κs.
     let arm = c.before.before in
     let shown = arm.before.before in
-    rw (shown.if1.false, arm.enum_told.given.1) at shown.before.before.requires)
+    rw (shown.if-withheld.false, arm.enum_told-1.given.1) at shown.before.before.requires)
     (λ c. search rules)
     axes-requires
     (λ c. search rules)
     (λ c.
     let put = c.before.before in
     let arm = put.before.before.before in
-    rw (arm.before.before.if1.false, arm.enum_told.given.1) put.put2.ensures)
+    rw (arm.before.before.if-withheld.false, arm.enum_told-1.given.1) put.put-in-Equal.ensures)
     (λ c. search rules)
     axes)

@@ -21,29 +21,29 @@ put_white_spec =
     (tie.spec
     (λ c. search rules)
     (λ c. refl)
-    (λ c κs. let arm = c.before.before in room_in_arm text arm.enum_told.given.1
+    (λ c κs. let arm = c.before.before in room_in_arm text arm.enum_told-1.given.1
     arm.before.before.before.requires)
     (λ c. search rules)
     (λ c. refl)
-    (λ c κs. let arm = c.before.before in room_in_arm text arm.enum-told2.given.1
+    (λ c κs. let arm = c.before.before in room_in_arm text arm.enum_told-in-D65Two-1.given.1
     arm.before.before.before.requires)
     (λ c. search rules)
     (λ c. refl)
-    (λ c κs. let arm = c.before.before in room_in_arm text arm.enum-told3.given.1
+    (λ c κs. let arm = c.before.before in room_in_arm text arm.enum_told-in-CTen-1.given.1
     arm.before.before.before.requires)
     (λ c. search rules)
     (λ c. refl)
-    (λ c κs. let arm = c.before.before in room_in_arm text arm.enum-told4.given.1
+    (λ c κs. let arm = c.before.before in room_in_arm text arm.enum_told-in-CTwo-1.given.1
     arm.before.before.before.requires)
     (λ c. search rules)
-    (λ c. let put = c.before.before in puts_in_arm text put.before.before.before.enum_told.given.1
+    (λ c. let put = c.before.before in puts_in_arm text put.before.before.before.enum_told-1.given.1
     put.put.ensures)
     (λ c. search rules)
-    (λ c. let put = c.before.before in puts_in_arm text put.before.before.before.enum-told2.given.1
-    put.put2.ensures)
+    (λ c. let put = c.before.before in puts_in_arm text put.before.before.before.enum_told-in-D65Two-1.given.1
+    put.put-in-D65Two.ensures)
     (λ c. search rules)
-    (λ c. let put = c.before.before in puts_in_arm text put.before.before.before.enum-told3.given.1
-    put.put3.ensures)
+    (λ c. let put = c.before.before in puts_in_arm text put.before.before.before.enum_told-in-CTen-1.given.1
+    put.put-in-CTen.ensures)
     (λ c. search rules)
-    (λ c. let put = c.before.before in puts_in_arm text put.before.before.before.enum-told4.given.1
-    put.put4.ensures))
+    (λ c. let put = c.before.before in puts_in_arm text put.before.before.before.enum_told-in-CTwo-1.given.1
+    put.put-in-CTwo.ensures))

@@ -5,22 +5,22 @@ use Rattle.printing.specs.Printed.Laws.{refusal-length, prints_put, prints_nothi
 use Rattle.printing.proofs.refusal.print_refusal.Statement.{statement}
 use Rattle.printing.proofs.refusal.print_refusal.Tie as tie
 
-too_short : tie.Need-returns
+too_short : tie.Need-returns-then-out-whole_len
 too_short c =
     let a = c.before.before.before.before.args in
     prints_nothing _ _ (omega (arith, refusal-length a.number a.line))
 
-room : tie.Need-put-refusal-requires
+room : tie.Need-put_refusal-requires
 room c κs =
     let a = c.before.before.before.before.before.args in
     record { room = omega (arith, refusal-length a.number a.line) }
 
-put : tie.Need-returns-2
+put : tie.Need-returns
 put c =
     let at-put = c.before.before in
     let fits = at-put.before.before in
     let a = fits.before.before.before.before.args in
-    prints_put (omega (arith, refusal-length a.number a.line)) at-put.put-refusal.ensures
+    prints_put (omega (arith, refusal-length a.number a.line)) at-put.put_refusal.ensures
 
 pub print_refusal_spec : {M : Type 1} → statement M
 print_refusal_spec =

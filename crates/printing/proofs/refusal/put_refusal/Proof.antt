@@ -7,40 +7,40 @@ use Rattle.printing.proofs.refusal.put_refusal.Statement.{statement}
 use Rattle.printing.proofs.refusal.put_refusal.Tie as tie
 
 -- the whole row has room
-row : (c : tie.Start) → RoomForAll c.args.dst.now 0 (refusal_pieces c.args.number c.args.line)
+row : (c : tie.Start) → RoomForAll c.args.dst-1.now 0 (refusal_pieces c.args.number c.args.line)
 unfolding refusal_line
 row c = room_for_all (refusal_pieces c.args.number c.args.line) c.requires
 
-refused-requires : tie.Need-put-requires
+refused-requires : tie.Need-put-after_refused-requires
 refused-requires c κs = room_first (row c.before.before.before)
 
-number-requires : tie.Need-put-whole-requires
+number-requires : tie.Need-put_whole-after_number-requires
 number-requires c κs =
     let refused = c.before.before.before in
-    room-second (row refused.before.before.before.before) refused.put.ensures
+    room-second (row refused.before.before.before.before) refused.put-after_refused.ensures
 
-key-requires : tie.Need-put-requires-2
+key-requires : tie.Need-put-after_key-requires
 key-requires c κs =
     let number = c.before.before.before.before in
     let refused = number.before.before.before.before in
-    room-third (row refused.before.before.before.before) refused.put.ensures number.put_whole.ensures
+    room-third (row refused.before.before.before.before) refused.put-after_refused.ensures number.put_whole-after_number.ensures
 
-line-requires : tie.Need-put-whole-requires-2
+line-requires : tie.Need-put_whole-after_line-requires
 line-requires c κs =
     let key = c.before.before.before in
     let number = key.before.before.before.before.before in
     let refused = number.before.before.before.before in
-    room-fourth (row refused.before.before.before.before) refused.put.ensures number.put_whole.ensures
-    key.put2.ensures
+    room-fourth (row refused.before.before.before.before) refused.put-after_refused.ensures number.put_whole-after_number.ensures
+    key.put-after_key.ensures
 
-end-requires : tie.Need-put-requires-3
+end-requires : tie.Need-put-requires
 end-requires c κs =
     let line = c.before.before.before.before in
     let key = line.before.before.before.before in
     let number = key.before.before.before.before.before in
     let refused = number.before.before.before.before in
-    let rest = room-rest (row refused.before.before.before.before) refused.put.ensures in
-    room-fourth rest number.put_whole.ensures key.put2.ensures line.put-whole2.ensures
+    let rest = room-rest (row refused.before.before.before.before) refused.put-after_refused.ensures in
+    room-fourth rest number.put_whole-after_number.ensures key.put-after_key.ensures line.put_whole-after_line.ensures
 
 returns : tie.Need-returns
 unfolding refusal_line
@@ -51,10 +51,10 @@ returns c =
     let number = key.before.before.before.before.before in
     let refused = number.before.before.before.before in
     let all = row refused.before.before.before.before in
-    let rest = room-rest all refused.put.ensures in
+    let rest = room-rest all refused.put-after_refused.ensures in
     puts_joined
-    (puts_more all refused.put.ensures
-    (puts_four rest number.put_whole.ensures key.put2.ensures line.put-whole2.ensures end.put3.ensures))
+    (puts_more all refused.put-after_refused.ensures
+    (puts_four rest number.put_whole-after_number.ensures key.put-after_key.ensures line.put_whole-after_line.ensures end.put.ensures))
 
 pub put_refusal_spec : {M : Type 1} → statement M
 put_refusal_spec =

@@ -6,7 +6,7 @@ use Rattle.probe.proofs.answers.judge_answer.Statement.{statement}
 use Rattle.probe.proofs.answers.judge_answer.Tie as tie
 
 answered : tie.Need-returns
-answered c = c.specimen-of.ensures ∙ ap specimen_of c.before.judge-figures.ensures
+answered c = c.specimen_of.ensures ∙ ap specimen_of c.before.judge_figures.ensures
 
 pub judge_answer_spec : {M : Type 1} → statement M
 judge_answer_spec = tie.close (tie.spec (λ c κs. search rules) (λ c κs. search rules) answered)

@@ -4,7 +4,7 @@ use Rattle.probe.proofs.answers.probe_judge_lab.Statement.{statement}
 use Rattle.probe.proofs.answers.probe_judge_lab.Tie as tie
 
 returns : tie.Need-returns
-returns c = c.judge-answer.ensures
+returns c = c.judge_answer.ensures
 
 pub probe_judge_lab_spec : {M : Type 1} → statement M
 probe_judge_lab_spec = tie.close (tie.spec (λ c κs. search rules) returns)

@@ -4,7 +4,7 @@ use Rattle.probe.proofs.answers.probe_load_lab.Statement.{statement}
 use Rattle.probe.proofs.answers.probe_load_lab.Tie as tie
 
 returns : tie.Need-returns
-returns c = c.load-answer.ensures
+returns c = c.load_answer.ensures
 
 pub probe_load_lab_spec : {M : Type 1} → statement M
 probe_load_lab_spec = tie.close (tie.spec (λ c κs. search rules) returns)

@@ -6,7 +6,7 @@ use Rattle.probe.proofs.answers.probe_ticket_line.Statement.{statement}
 use Rattle.probe.proofs.answers.probe_ticket_line.Tie as tie
 
 answered : tie.Need-returns
-answered c = ap (λ (x : TicketAnswer). x.line) c.ticket-figures.ensures
+answered c = ap (λ (x : TicketAnswer). x.line) c.ticket_figures-x.ensures
 
 pub probe_ticket_line_spec : {M : Type 1} → statement M
 probe_ticket_line_spec = tie.close (tie.spec (λ c κs. search rules) answered)

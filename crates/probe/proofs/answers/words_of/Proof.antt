@@ -4,11 +4,11 @@ use Rattle.probe.specs.Answers.{words_of}
 use Rattle.probe.proofs.answers.words_of.Statement.{statement}
 use Rattle.probe.proofs.answers.words_of.Tie as tie
 
-nothing : tie.Need-returns
+nothing : tie.Need-returns-in-Nothing
 unfolding words_of
-nothing c = rw c.enum_told.given.1
+nothing c = rw c.enum_told-1.given.1
 
-named : tie.Need-returns-2
+named : tie.Need-returns-in-Names
 unfolding words_of
 named c =
     let at_bracket = c.before in
@@ -17,12 +17,12 @@ named c =
     let at_lightness = at_chroma.before in
     let at_n = at_lightness.before.before in
     rw (
-      at_n.n.given.1,
-      at_lightness.lightness-number.ensures,
-      at_chroma.chroma-number.ensures,
-      at-hue.hue-number.ensures,
-      at_bracket.bracket-number.ensures,
-      c.verdict-number.ensures,
+      at_n.n-1.given.1,
+      at_lightness.lightness_number.ensures,
+      at_chroma.chroma_number.ensures,
+      at-hue.hue_number.ensures,
+      at_bracket.bracket_number.ensures,
+      c.verdict_number.ensures,
     )
 
 pub words_of_spec : {M : Type 1} → statement M

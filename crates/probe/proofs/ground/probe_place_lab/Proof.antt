@@ -4,7 +4,7 @@ use Rattle.probe.proofs.ground.probe_place_lab.Statement.{statement}
 use Rattle.probe.proofs.ground.probe_place_lab.Tie as tie
 
 returns : tie.Need-returns
-returns c = c.before.place-numbered.ensures
+returns c = c.before.place_numbered.ensures
 
 pub probe_place_lab_spec : {M : Type 1} → statement M
 probe_place_lab_spec = tie.close (tie.spec (λ c κs. search rules) (λ c. search rules) returns)

@@ -7,17 +7,17 @@ use mir.Val.{to_z, of_z}
 use Rattle.probe.proofs.ground.store_colour.Statement.{statement}
 use Rattle.probe.proofs.ground.store_colour.Tie as tie
 
-stored : tie.Need-returns
+stored : tie.Need-returns-then-out-eq3
 stored c =
     let at_a = c.before.before in
     let colour = at_a.before.before.args.c in
     let l-back : to_z w64 (of_z w64 colour.L.0) ≡ colour.L.0 = search rules in
     let a_back : to_z w64 (of_z w64 colour.a.0) ≡ colour.a.0 = search rules in
     let b_back : to_z w64 (of_z w64 colour.b.0) ≡ colour.b.0 = search rules in
-    simp (eq-eqb _ 3 c.if1.true, l-back, a_back, b_back)
+    simp (eq-eqb _ 3 c.if-out-eq3.true, l-back, a_back, b_back)
 
-left : tie.Need-returns-2
-left c = simp (ne_eqb _ 3 c.if1.false)
+left : tie.Need-returns-else-out-eq3
+left c = simp (ne_eqb _ 3 c.if-out-eq3.false)
 
 pub store_colour_spec : {M : Type 1} → statement M
 store_colour_spec =

@@ -6,8 +6,8 @@ use Rattle.reading.proofs.grid.value_of.Tie as tie
 
 returns : tie.Need-returns
 returns c =
-    value_is (pos c.before.before.args.units) c.before.nearest-u64-to-f64.ensures
-    c.nearest-u64-to-f642.ensures
+    value_is (pos c.before.before.args.units) c.before.nearest_u64_to_f64.ensures
+    c.nearest_u64_to_f64-2.ensures
 
 pub value_of_spec : {M : Type 1} → statement M
 value_of_spec = tie.close (tie.spec (λ c κs. search rules) (λ c κs. search rules) returns)

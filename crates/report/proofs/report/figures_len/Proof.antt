@@ -10,7 +10,7 @@ use Rattle.report.proofs.report.figures_len.Statement.{statement}
 use Rattle.report.proofs.report.figures_len.Tie as tie
 
 -- a difference is handed on as it was read
-module _ (c : tie.After-struct-told) where
+module _ (c : tie.After-struct_told-1) where
   abbrev d : Differences
   d = c.before.before.args.d
 
@@ -23,23 +23,23 @@ module _ (c : tie.After-struct-told) where
   DH_back : to_z w64 (of_z w64 d.DH) ≡ d.DH
   DH_back = search rules
 
-withheld : tie.Need-returns
+withheld : tie.Need-returns-then-withheld
 withheld c =
     let dl = c.before in
     let read = dl.before in
     let dl-length = rw (DL_back read) at dl.signed_len_lem.ensures in
-    rw (c.if1.true, figures-length-withheld (d read)) (omega arith, omega arith)
+    rw (c.if-withheld.true, figures-length-withheld (d read)) (omega arith, omega arith)
 
-shown : tie.Need-returns-2
+shown : tie.Need-returns
 shown c =
     let dc = c.before.before in
     let arm = dc.before.before in
     let dl = arm.before in
     let read = dl.before in
     let dl-length = rw (DL_back read) at dl.signed_len_lem.ensures in
-    let dc-length = rw (DC_back read) at dc.signed-len2.ensures in
-    let dh-length = rw (DH_back read) at c.signed-len3.ensures in
-    rw (arm.if1.false, figures-length (d read)) (omega arith, omega arith)
+    let dc-length = rw (DC_back read) at dc.signed_len-2.ensures in
+    let dh-length = rw (DH_back read) at c.signed_len-3.ensures in
+    rw (arm.if-withheld.false, figures-length (d read)) (omega arith, omega arith)
 
 pub figures_len_spec : {M : Type 1} → statement M
 figures_len_spec =

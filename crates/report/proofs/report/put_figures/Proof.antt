@@ -16,14 +16,14 @@ use Rattle.report.proofs.report.put_figures.Statement.{statement}
 use Rattle.report.proofs.report.put_figures.Tie as tie
 
 -- where all four are shown
-module _ (shown : tie.After-signed-figure3) where
-  abbrev DC-shown : tie.After-signed-figure2
+module _ (shown : tie.After-signed_figure-DH) where
+  abbrev DC-shown : tie.After-signed_figure-DC
   DC-shown = shown.before.before
 
-  abbrev DL-shown : tie.After-signed-figure
+  abbrev DL-shown : tie.After-signed_figure-DL
   DL-shown = DC-shown.before.before
 
-  abbrev DE-shown : tie.After-figure-of
+  abbrev DE-shown : tie.After-figure_of-DE
   DE-shown = DL-shown.before.before
 
   abbrev start : tie.Start
@@ -44,41 +44,41 @@ module _ (shown : tie.After-signed-figure3) where
 
   abbrev lines : List (List ℕ)
   lines =
-      figures_shown start.args.withheld DE-shown.figure-of.result DL-shown.signed-figure.result
-      DC-shown.signed-figure2.result
-      shown.signed-figure3.result
+      figures_shown start.args.withheld DE-shown.figure_of-DE.result DL-shown.signed_figure-DL.result
+      DC-shown.signed_figure-DC.result
+      shown.signed_figure-DH.result
 
   as_shown : figure_lines start.args.withheld d ≡ lines
   as_shown =
-      figures-shown start.args.withheld d DE-shown.figure-of.ensures
-      (DL-shown.signed-figure.ensures ∙ ap signed_figure DL_back)
-      (DC-shown.signed-figure2.ensures ∙ ap signed_figure DC_back)
-      (shown.signed-figure3.ensures ∙ ap signed_figure DH_back)
+      figures-shown start.args.withheld d DE-shown.figure_of-DE.ensures
+      (DL-shown.signed_figure-DL.ensures ∙ ap signed_figure DL_back)
+      (DC-shown.signed_figure-DC.ensures ∙ ap signed_figure DC_back)
+      (shown.signed_figure-DH.ensures ∙ ap signed_figure DH_back)
 
-  row : RoomForAll start.args.dst.now start.args.at lines
-  row = room_for_all lines (room_as (ap joined as_shown) start.pre)
+  row : RoomForAll start.args.dst-1.now start.args.at lines
+  row = room_for_all lines (room_as (ap joined as_shown) start.requires)
 
-DE-requires : tie.Need-put-number-requires
+DE-requires : tie.Need-put_number-after_DE-requires
 DE-requires c κs = room_first (row c.before.before)
 
-DL-requires : tie.Need-put-number-requires-2
+DL-requires : tie.Need-put_number-after_DL-requires
 DL-requires c κs =
     let DE = c.before.before.before.before in
-    room-second (row DE.before.before.before) DE.put-number.ensures
+    room-second (row DE.before.before.before) DE.put_number-after_DE.ensures
 
-DC-requires : tie.Need-put-chromatic-requires
+DC-requires : tie.Need-put_chromatic-after_DC-requires
 DC-requires c κs =
     let DL = c.before.before.before.before in
     let DE = DL.before.before.before.before.before in
-    room-third (row DE.before.before.before) DE.put-number.ensures DL.put-number2.ensures
+    room-third (row DE.before.before.before) DE.put_number-after_DE.ensures DL.put_number-after_DL.ensures
 
-DH-requires : tie.Need-put-chromatic-requires-2
+DH-requires : tie.Need-put_chromatic-requires
 DH-requires c κs =
     let DC = c.before.before.before.before in
     let DL = DC.before.before.before.before.before in
     let DE = DL.before.before.before.before.before in
-    room-fourth (row DE.before.before.before) DE.put-number.ensures DL.put-number2.ensures
-    DC.put-chromatic.ensures
+    room-fourth (row DE.before.before.before) DE.put_number-after_DE.ensures DL.put_number-after_DL.ensures
+    DC.put_chromatic-after_DC.ensures
 
 returns : tie.Need-returns
 returns c =
@@ -89,8 +89,8 @@ returns c =
     let shown = DE.before.before.before in
     puts_as (sym (ap joined (as_shown shown)))
     (puts_joined
-    (puts_four (row shown) DE.put-number.ensures DL.put-number2.ensures DC.put-chromatic.ensures
-    DH.put-chromatic2.ensures))
+    (puts_four (row shown) DE.put_number-after_DE.ensures DL.put_number-after_DL.ensures DC.put_chromatic-after_DC.ensures
+    DH.put_chromatic.ensures))
 
 pub put_figures_spec : {M : Type 1} → statement M
 put_figures_spec =

@@ -12,40 +12,40 @@ use Rattle.report.proofs.report.put_settings.Statement.{statement}
 use Rattle.report.proofs.report.put_settings.Tie as tie
 
 -- where l and c are shown
-module _ (shown : tie.After-thousandths-of2) where
+module _ (shown : tie.After-thousandths_of-c) where
   abbrev start : tie.Start
   start = shown.before.before.before
 
   abbrev lines : List (List ℕ)
-  lines = settings_shown start.args.s shown.before.thousandths-of.result shown.thousandths-of2.result
+  lines = settings_shown start.args.s shown.before.thousandths_of-l.result shown.thousandths_of-c.result
 
   as_shown : setting_lines start.args.s ≡ lines
-  as_shown = settings-shown start.args.s shown.before.thousandths-of.ensures shown.thousandths-of2.ensures
+  as_shown = settings-shown start.args.s shown.before.thousandths_of-l.ensures shown.thousandths_of-c.ensures
 
-  row : RoomForAll start.args.dst.now start.args.at lines
-  row = room_for_all lines (room_as (ap joined as_shown) start.pre)
+  row : RoomForAll start.args.dst-1.now start.args.at lines
+  row = room_for_all lines (room_as (ap joined as_shown) start.requires)
 
-formula-requires : tie.Need-put-formula-requires
+formula-requires : tie.Need-put_formula-after_formula-requires
 formula-requires c κs = room_first (row c.before)
 
-white-requires : tie.Need-put-white-requires
+white-requires : tie.Need-put_white-after_white-requires
 white-requires c κs =
     let formula = c.before.before.before in
-    room-second (row formula.before.before) formula.put-formula.ensures
+    room-second (row formula.before.before) formula.put_formula-after_formula.ensures
 
-l-requires : tie.Need-put-number-requires
+l-requires : tie.Need-put_number-after_l-requires
 l-requires c κs =
     let white = c.before.before.before.before in
     let formula = white.before.before.before.before in
-    room-third (row formula.before.before) formula.put-formula.ensures white.put-white.ensures
+    room-third (row formula.before.before) formula.put_formula-after_formula.ensures white.put_white-after_white.ensures
 
-c-requires : tie.Need-put-number-requires-2
+c-requires : tie.Need-put_number-requires
 c-requires c κs =
     let l = c.before.before.before.before in
     let white = l.before.before.before.before.before in
     let formula = white.before.before.before.before in
-    room-fourth (row formula.before.before) formula.put-formula.ensures white.put-white.ensures
-    l.put-number.ensures
+    room-fourth (row formula.before.before) formula.put_formula-after_formula.ensures white.put_white-after_white.ensures
+    l.put_number-after_l.ensures
 
 returns : tie.Need-returns
 returns c =
@@ -56,8 +56,8 @@ returns c =
     let shown = formula.before.before in
     puts_as (sym (ap joined (as_shown shown)))
     (puts_joined
-    (puts_four (row shown) formula.put-formula.ensures white.put-white.ensures l.put-number.ensures
-    last.put-number2.ensures))
+    (puts_four (row shown) formula.put_formula-after_formula.ensures white.put_white-after_white.ensures l.put_number-after_l.ensures
+    last.put_number.ensures))
 
 pub put_settings_spec : {M : Type 1} → statement M
 put_settings_spec =

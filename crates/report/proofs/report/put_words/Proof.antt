@@ -5,29 +5,29 @@ use Rattle.report.specs.Report.{word_lines}
 use Rattle.report.proofs.report.put_words.Statement.{statement}
 use Rattle.report.proofs.report.put_words.Tie as tie
 
-put-lightness-requires : tie.Need-put-lightness-requires
+put-lightness-requires : tie.Need-put_lightness-after_lightness-requires
 unfolding word_lines
 put-lightness-requires c κs =
     let start = c.before.before in
     room_first (room_for_all (word_lines start.args.j) start.requires)
 
-put-chroma-requires : tie.Need-put-chroma-requires
+put-chroma-requires : tie.Need-put_chroma-after_chroma-requires
 unfolding word_lines
 put-chroma-requires c κs =
     let lightness = c.before.before.before in
     let start = lightness.before.before.before in
-    room-second (room_for_all (word_lines start.args.j) start.requires) lightness.put-lightness.ensures
+    room-second (room_for_all (word_lines start.args.j) start.requires) lightness.put_lightness-after_lightness.ensures
 
-put-hue-requires : tie.Need-put-hue-requires
+put-hue-requires : tie.Need-put_hue-after_hue-requires
 unfolding word_lines
 put-hue-requires c κs =
     let chroma = c.before.before.before in
     let lightness = chroma.before.before.before.before in
     let start = lightness.before.before.before in
     let row = room_for_all (word_lines start.args.j) start.requires in
-    room-third row lightness.put-lightness.ensures chroma.put-chroma.ensures
+    room-third row lightness.put_lightness-after_lightness.ensures chroma.put_chroma-after_chroma.ensures
 
-put-verdict-requires : tie.Need-put-verdict-requires
+put-verdict-requires : tie.Need-put_verdict-requires
 unfolding word_lines
 put-verdict-requires c κs =
     let hue = c.before.before.before in
@@ -35,7 +35,7 @@ put-verdict-requires c κs =
     let lightness = chroma.before.before.before.before in
     let start = lightness.before.before.before in
     let row = room_for_all (word_lines start.args.j) start.requires in
-    room-fourth row lightness.put-lightness.ensures chroma.put-chroma.ensures hue.put-hue.ensures
+    room-fourth row lightness.put_lightness-after_lightness.ensures chroma.put_chroma-after_chroma.ensures hue.put_hue-after_hue.ensures
 
 returns : tie.Need-returns
 unfolding word_lines
@@ -47,8 +47,8 @@ returns c =
     let start = lightness.before.before.before in
     let row = room_for_all (word_lines start.args.j) start.requires in
     puts_joined
-    (puts_four row lightness.put-lightness.ensures chroma.put-chroma.ensures hue.put-hue.ensures
-    verdict.put-verdict.ensures)
+    (puts_four row lightness.put_lightness-after_lightness.ensures chroma.put_chroma-after_chroma.ensures hue.put_hue-after_hue.ensures
+    verdict.put_verdict.ensures)
 
 pub put_words_spec : {M : Type 1} → statement M
 put_words_spec =

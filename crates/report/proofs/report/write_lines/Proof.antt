@@ -5,22 +5,22 @@ use Rattle.report.specs.Report.{report_parts, report_text}
 use Rattle.report.proofs.report.write_lines.Statement.{statement}
 use Rattle.report.proofs.report.write_lines.Tie as tie
 
-put-settings-requires : tie.Need-put-settings-requires
+put-settings-requires : tie.Need-put_settings-after_settings-requires
 unfolding report_text
 put-settings-requires c κs =
     let read = c.before.before in
     let start = read.before.before in
     room_first (room_for_all (report_parts start.args.j) start.requires)
 
-put-figures-requires : tie.Need-put-figures-requires
+put-figures-requires : tie.Need-put_figures-after_figures-requires
 unfolding report_text
 put-figures-requires c κs =
     let settings = c.before.before.before in
     let read = settings.before.before.before in
     let start = read.before.before in
-    room-second (room_for_all (report_parts start.args.j) start.requires) settings.put-settings.ensures
+    room-second (room_for_all (report_parts start.args.j) start.requires) settings.put_settings-after_settings.ensures
 
-put-words-requires : tie.Need-put-words-requires
+put-words-requires : tie.Need-put_words-requires
 unfolding report_text
 put-words-requires c κs =
     let figures = c.before.before.before in
@@ -28,7 +28,7 @@ put-words-requires c κs =
     let read = settings.before.before.before in
     let start = read.before.before in
     let row = room_for_all (report_parts start.args.j) start.requires in
-    room-third row settings.put-settings.ensures figures.put-figures.ensures
+    room-third row settings.put_settings-after_settings.ensures figures.put_figures-after_figures.ensures
 
 returns : tie.Need-returns
 unfolding report_text
@@ -39,7 +39,7 @@ returns c =
     let read = settings.before.before.before in
     let start = read.before.before in
     let row = room_for_all (report_parts start.args.j) start.requires in
-    (puts_three row settings.put-settings.ensures figures.put-figures.ensures words.put-words.ensures).bytes
+    (puts_three row settings.put_settings-after_settings.ensures figures.put_figures-after_figures.ensures words.put_words.ensures).bytes
 
 pub write_lines_spec : {M : Type 1} → statement M
 write_lines_spec =

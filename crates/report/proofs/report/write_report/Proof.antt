@@ -12,7 +12,7 @@ use Rattle.report.specs.Write.Laws.{write_number_zero, write_room_put, write_num
 use Rattle.report.proofs.report.write_report.Statement.{statement}
 use Rattle.report.proofs.report.write_report.Tie as tie
 
-past_the_end : tie.Need-returns
+past_the_end : tie.Need-returns-then-room-column
 past_the_end c =
     let a = c.before.before.args in
     record {
@@ -20,7 +20,7 @@ past_the_end c =
       room_is = sym (write_room_kept _ _ a.j (omega arith));
     }
 
-too_short : tie.Need-returns-2
+too_short : tie.Need-returns-then-room-column-2
 too_short c =
     let at_length = c.before in
     let a = at_length.before.before.before.args in
@@ -29,18 +29,18 @@ too_short c =
       room_is = sym (write_room_kept _ _ a.j (omega arith));
     }
 
-written : tie.Need-returns-3
+written : tie.Need-returns
 written c =
     let at-lines = c.before.before in
     let fits = at-lines.before.before in
     let at_length = fits.before in
     let a = at_length.before.before.before.args in
-    let room = a.room.now in
+    let room = a.room-1.now in
     record {
       number_is = sym (write_number_zero room a.column a.j (omega arith));
       room_is =
           ap (λ (l : List ℕ). take a.column room ++ (l ++ drop (length room - a.column) (drop a.column room)))
-          at-lines.write-lines.ensures
+          at-lines.write_lines.ensures
           ∙ part-put room a.column (report_text a.j) (omega arith)
           ∙ sym (write_room_put room a.column a.j (omega arith));
     }

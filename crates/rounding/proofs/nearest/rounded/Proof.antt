@@ -14,8 +14,8 @@ use Rattle.rounding.proofs.nearest.rounded.Tie as tie
 returns : tie.Need-returns
 returns c =
     let a = c.before.args in
-    let back : to_z w64 (of_z w64 c.with-sign.result) ≡ c.with-sign.result = search rules in
-    back ∙ c.with-sign.ensures ∙ ap (signed a.below) (sym (nearest-add a.num a.den))
+    let back : to_z w64 (of_z w64 c.with_sign.result) ≡ c.with_sign.result = search rules in
+    back ∙ c.with_sign.ensures ∙ ap (signed a.below) (sym (nearest-add a.num a.den))
 
 pub rounded_spec : {M : Type 1} → statement M
 rounded_spec =

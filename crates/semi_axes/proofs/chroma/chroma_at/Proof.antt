@@ -12,7 +12,7 @@ returns : tie.Need-returns
 unfolding chroma
 returns c =
     let f = c.before.before.ranges in
-    c.square-root.ensures ∙ ap (root_of 2) (simp (to_z-of_z, f.a, f.b) at c.before.squares.ensures)
+    c.square_root.ensures ∙ ap (root_of 2) (simp (to_z-of_z, f.a, f.b) at c.before.squares.ensures)
 
 pub chroma_at_spec : {M : Type 1} → statement M
 chroma_at_spec =

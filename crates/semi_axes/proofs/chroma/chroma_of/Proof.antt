@@ -12,7 +12,7 @@ returns : tie.Need-returns
 returns c =
     let told = c.before.before in
     let s = told.before in
-    c.chroma-at.ensures ∙ ap₂ chroma (a_back s.requires) (b_back s.requires)
+    c.chroma_at.ensures ∙ ap₂ chroma (a_back s.requires) (b_back s.requires)
     ∙ ap chroma_of (sym (at_places_20 s.args.c))
 
 pub chroma_of_spec : {M : Type 1} → statement M

@@ -11,20 +11,20 @@ use Rattle.sheet.specs.Sheet.Laws.{hue_semi_axis-chromatic}
 use Rattle.semi_axes.proofs.hue.hue_semi_axis.Statement.{statement}
 use Rattle.semi_axes.proofs.hue.hue_semi_axis.Tie as tie
 
-neutral : tie.Need-returns
+neutral : tie.Need-returns-then-c-eq0
 neutral c =
     let s = c.before in
     sym (hue_semi_axis-neutral 20 s.args.a s.args.b s.args.c s.args.sc
-    (neutral_of_chroma _ _ (sym s.requires.is ∙ c.if1.true)))
+    (neutral_of_chroma _ _ (sym s.requires.is ∙ c.if-c-eq0.true)))
 
-chromatic : tie.Need-hue-t-of-requires
+chromatic : tie.Need-hue_t_of-t-requires
 chromatic c κs =
     let s = c.before.before in
     simp (to_z-of_z, s.ranges.a, s.ranges.b) (record { hue = s.requires.hue; is = s.requires.is; some = omega arith })
 
 -- ---- a colour that is not neutral: F and T, as the code has them
-module _ (c : tie.After-hue-t-of) where
-  abbrev at_f : tie.After-hue-f-of
+module _ (c : tie.After-hue_t_of-t) where
+  abbrev at_f : tie.After-hue_f_of-f
   at_f = c.before
 
   abbrev start : tie.Start
@@ -34,15 +34,15 @@ module _ (c : tie.After-hue-t-of) where
   C>0 = omega arith
 
   f_is :
-      let s = start.args in at_f.hue-f-of.result ≡ hue_f 20 (hue_q 20 s.a s.b) (hue_w 20 (hue_q 20 s.a s.b))
-  f_is = simp (to_z-of_z, start.fits.a, start.fits.b) at at_f.hue-f-of.ensures
+      let s = start.args in at_f.hue_f_of-f.result ≡ hue_f 20 (hue_q 20 s.a s.b) (hue_w 20 (hue_q 20 s.a s.b))
+  f_is = simp (to_z-of_z, start.fits.a, start.fits.b) at at_f.hue_f_of-f.ensures
 
   t_is :
       let s = start.args in
-      c.hue-t-of.result ≡ hue_t 20 (second_form s.a s.b) (hue_m (second_form s.a s.b) s.a s.b) s.c
-  t_is = simp (to_z-of_z, start.fits.a, start.fits.b) at c.hue-t-of.ensures
+      c.hue_t_of-t.result ≡ hue_t 20 (second_form s.a s.b) (hue_m (second_form s.a s.b) s.a s.b) s.c
+  t_is = simp (to_z-of_z, start.fits.a, start.fits.b) at c.hue_t_of-t.ensures
 
-components-fit : tie.Need-semi-axis-h-requires
+components-fit : tie.Need-semi_axis_h-requires
 components-fit c κs =
     let p = (start c).requires in
     record {
@@ -51,11 +51,11 @@ components-fit c κs =
       T = rw (t_is c) (hue_t_of_le 20 _ _ p.is (C>0 c) _);
     }
 
-returns : tie.Need-returns-2
+returns : tie.Need-returns
 returns c =
     let t = c.before in
     let s = (start t).args in
-    c.semi-axis-h.ensures
+    c.semi_axis_h.ensures
     ∙ ap₂ (λ (f t : ℕ). semi_axis_h 20 s.sc (hue_g 20 (hue_p 20 f t) f)) (f_is t) (t_is t)
     ∙ sym (hue_semi_axis-chromatic 20 s.a s.b s.c s.sc
     (chromatic_of_chroma _ _ (rw (start t).requires.is at (C>0 t))))

@@ -4,13 +4,13 @@ use Rattle.sheet.specs.Sheet.{hue_t}
 use Rattle.semi_axes.proofs.hue.hue_t.Statement.{statement}
 use Rattle.semi_axes.proofs.hue.hue_t.Tie as tie
 
-second : tie.Need-returns
+second : tie.Need-returns-then-second
 unfolding hue_t
-second c = rw c.before.if1.true c.fraction.ensures
+second c = rw c.before.if-second.true c.fraction.ensures
 
-first : tie.Need-returns-2
+first : tie.Need-returns
 unfolding hue_t
-first c = rw c.before.if1.false c.fraction2.ensures
+first c = rw c.before.if-second.false c.fraction-2.ensures
 
 pub hue_t_spec : {M : Type 1} → statement M
 hue_t_spec =

@@ -8,7 +8,7 @@ use Rattle.semi_axes.proofs.hue.hue_w.Tie as tie
 
 returns : tie.Need-returns
 unfolding hue_w
-returns c = c.square-root.ensures
+returns c = c.square_root.ensures
 
 pub hue_w_spec : {M : Type 1} → statement M
 hue_w_spec =

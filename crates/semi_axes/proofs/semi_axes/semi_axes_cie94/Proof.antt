@@ -9,10 +9,10 @@ use Rattle.sheet.specs.Sheet.Laws.{chroma-lt}
 use Rattle.semi_axes.proofs.semi_axes.semi_axes_cie94.Statement.{statement}
 use Rattle.semi_axes.proofs.semi_axes.semi_axes_cie94.Tie as tie
 
-chroma_is : (c : tie.After-chroma-at) → c.chroma-at.result ≡ chroma c.before.args.a c.before.args.b
-chroma_is c = simp (to_z-of_z, c.before.ranges.a, c.before.ranges.b) at c.chroma-at.ensures
+chroma_is : (c : tie.After-chroma_at-c) → c.chroma_at-c.result ≡ chroma c.before.args.a c.before.args.b
+chroma_is c = simp (to_z-of_z, c.before.ranges.a, c.before.ranges.b) at c.chroma_at-c.ensures
 
-small : (c : tie.After-chroma-at) → c.chroma-at.result < 2 ^ 29
+small : (c : tie.After-chroma_at-c) → c.chroma_at-c.result < 2 ^ 29
 small c = rw (chroma_is c) (chroma-lt _ _ c.before.requires)
 
 returns : tie.Need-returns

@@ -7,7 +7,7 @@ use Rattle.semi_axes.proofs.semi_axes.semi_axes_cielab.Tie as tie
 
 returns : tie.Need-returns
 unfolding semi_axes_cielab
-returns c = rw (simp (to_z-of_z, c.before.ranges.a, c.before.ranges.b) at c.chroma-at.ensures)
+returns c = rw (simp (to_z-of_z, c.before.ranges.a, c.before.ranges.b) at c.chroma_at-c.ensures)
 
 pub semi_axes_cielab_spec : {M : Type 1} → statement M
 semi_axes_cielab_spec = tie.close (tie.spec (λ c κs. search rules) returns)

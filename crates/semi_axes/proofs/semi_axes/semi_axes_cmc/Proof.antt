@@ -8,37 +8,37 @@ use Rattle.sheet.specs.Sheet.Laws.{chroma-lt, semi_axis_c-le}
 use Rattle.semi_axes.proofs.semi_axes.semi_axes_cmc.Statement.{statement}
 use Rattle.semi_axes.proofs.semi_axes.semi_axes_cmc.Tie as tie
 
-chroma_is : (c : tie.After-chroma-at) → c.chroma-at.result ≡ chroma c.before.args.a c.before.args.b
-chroma_is c = simp (to_z-of_z, c.before.ranges.a, c.before.ranges.b) at c.chroma-at.ensures
+chroma_is : (c : tie.After-chroma_at-c) → c.chroma_at-c.result ≡ chroma c.before.args.a c.before.args.b
+chroma_is c = simp (to_z-of_z, c.before.ranges.a, c.before.ranges.b) at c.chroma_at-c.ensures
 
 -- ---- seen from where SC is known
-module _ (c : tie.After-semi-axis-c) where
-  abbrev at_chroma : tie.After-chroma-at
+module _ (c : tie.After-semi_axis_c-sc) where
+  abbrev at_chroma : tie.After-chroma_at-c
   at_chroma = c.before.before
 
   abbrev start : tie.Start
   start = at_chroma.before
 
-  sc_is : c.semi-axis-c.result ≡ semi_axis_c 20 (chroma start.args.a start.args.b)
-  sc_is = c.semi-axis-c.ensures ∙ ap (semi_axis_c 20) (chroma_is at_chroma)
+  sc_is : c.semi_axis_c-sc.result ≡ semi_axis_c 20 (chroma start.args.a start.args.b)
+  sc_is = c.semi_axis_c-sc.ensures ∙ ap (semi_axis_c 20) (chroma_is at_chroma)
 
-hue-semi-axis-requires : tie.Need-hue-semi-axis-requires
+hue-semi-axis-requires : tie.Need-hue_semi_axis-sh-requires
 hue-semi-axis-requires c κs =
     let s = start c in
     simp (to_z-of_z, s.fits.a, s.fits.b)
     (record {
-      hue = s.pre.1;
+      hue = s.requires.1;
       is = chroma_is (at_chroma c);
       small = omega (arith, sc_is c, semi_axis_c-le 20 (chroma s.args.a s.args.b));
     })
 
 sh_is :
-    (c : tie.After-hue-semi-axis) →
+    (c : tie.After-hue_semi_axis-sh) →
     let s = (start c.before).args in
-    c.hue-semi-axis.result ≡ hue_semi_axis 20 s.a s.b (chroma s.a s.b) (semi_axis_c 20 (chroma s.a s.b))
+    c.hue_semi_axis-sh.result ≡ hue_semi_axis 20 s.a s.b (chroma s.a s.b) (semi_axis_c 20 (chroma s.a s.b))
 sh_is c =
     let s = start c.before in
-    (simp (to_z-of_z, s.fits.a, s.fits.b) at c.hue-semi-axis.ensures)
+    (simp (to_z-of_z, s.fits.a, s.fits.b) at c.hue_semi_axis-sh.ensures)
     ∙ ap₂ (hue_semi_axis 20 s.args.a s.args.b) (chroma_is (at_chroma c.before)) (sc_is c.before)
 
 returns : tie.Need-returns
@@ -46,7 +46,7 @@ unfolding semi_axes_cmc
 returns c =
     let sc = c.before in
     λ i. record
-    { C = chroma_is (at_chroma sc) i; SL = sc.before.semi-axis-l.ensures i; SC = sc_is sc i; SH = sh_is c i }
+    { C = chroma_is (at_chroma sc) i; SL = sc.before.semi_axis_l-sl.ensures i; SC = sc_is sc i; SH = sh_is c i }
 
 pub semi_axes_cmc_spec : {M : Type 1} → statement M
 semi_axes_cmc_spec =

@@ -5,11 +5,11 @@ use Rattle.sheet.specs.Sheet.Laws.{semi_axis_l-dark, semi_axis_l-light}
 use Rattle.semi_axes.proofs.semi_axes.semi_axis_l.Statement.{statement}
 use Rattle.semi_axes.proofs.semi_axes.semi_axis_l.Tie as tie
 
-dark : tie.Need-returns
-dark c = sym (semi_axis_l-dark 20 c.if1.true)
+dark : tie.Need-returns-then-l
+dark c = sym (semi_axis_l-dark 20 c.if-l.true)
 
-light : tie.Need-returns-2
-light c = sym (semi_axis_l-light 20 c.if1.false)
+light : tie.Need-returns
+light c = sym (semi_axis_l-light 20 c.if-l.false)
 
 pub semi_axis_l_spec : {M : Type 1} → statement M
 semi_axis_l_spec =

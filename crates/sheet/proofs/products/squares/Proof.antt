@@ -12,17 +12,17 @@ use Rattle.sheet.proofs.products.squares.Tie as tie
 square_le : {p : ℕ} → p ≤ 2 ^ 31 → p * p ≤ 2 ^ 62
 square_le h = mul-le-mul h h
 
-module _ (c : tie.After-magnitude2) where
-  first : c.before.magnitude.result ≡ ∣ c.before.before.args.x ∣
-  first = rw (to_z-of_z c.before.before.ranges.x) at c.before.magnitude.ensures
+module _ (c : tie.After-magnitude-q) where
+  first : c.before.magnitude-p.result ≡ ∣ c.before.before.args.x ∣
+  first = rw (to_z-of_z c.before.before.ranges.x) at c.before.magnitude-p.ensures
 
-  second : c.magnitude2.result ≡ ∣ c.before.before.args.y ∣
-  second = rw (to_z-of_z c.before.before.ranges.y) at c.magnitude2.ensures
+  second : c.magnitude-q.result ≡ ∣ c.before.before.args.y ∣
+  second = rw (to_z-of_z c.before.before.ranges.y) at c.magnitude-q.ensures
 
-  first_le : c.before.magnitude.result * c.before.magnitude.result ≤ 2 ^ 62
+  first_le : c.before.magnitude-p.result * c.before.magnitude-p.result ≤ 2 ^ 62
   first_le = square_le (rw first c.before.before.requires.first)
 
-  second-le : c.magnitude2.result * c.magnitude2.result ≤ 2 ^ 62
+  second-le : c.magnitude-q.result * c.magnitude-q.result ≤ 2 ^ 62
   second-le = square_le (rw second c.before.before.requires.second)
 
 pub squares_spec : {M : Type 1} → statement M

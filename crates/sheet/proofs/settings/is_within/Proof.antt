@@ -7,4 +7,4 @@ use Rattle.sheet.proofs.settings.is_within.Tie as tie
 pub is_within_spec : {M : Type 1} → statement M
 is_within_spec =
     tie.close
-    (tie.spec (λ c. sym (within_below _ _ _ c.if1.true)) (λ c. sym (within_not_below _ _ _ c.if1.false)))
+    (tie.spec (λ c. sym (within_below _ _ _ c.if-n-low.true)) (λ c. sym (within_not_below _ _ _ c.if-n-low.false)))

@@ -11,16 +11,16 @@ use Rattle.sheet.specs.Sheet.{same_hue}
 use Rattle.sheet.proofs.shift.same_hue.Statement.{statement}
 use Rattle.sheet.proofs.shift.same_hue.Tie as tie
 
-cross-zero : tie.Need-returns
+cross-zero : tie.Need-returns-then-x-eq0
 unfolding same_hue
 cross-zero c =
-    let zero : c.before.args.x ≡ pos 0 = sym (to_z-of_z c.before.ranges.x) ∙ ap (to_z w64) c.if1.true in
+    let zero : c.before.args.x ≡ pos 0 = sym (to_z-of_z c.before.ranges.x) ∙ ap (to_z w64) c.if-x-eq0.true in
     rw (to_z-of_z c.before.ranges.y, zero)
 
-cross_else : tie.Need-returns-2
+cross_else : tie.Need-returns
 unfolding same_hue
 cross_else c =
-    rw (ne_eqb ∣ c.before.args.x ∣ 0 (λ e. c.if1.false (ap (of_z w64) (zero_of_abs c.before.args.x e))))
+    rw (ne_eqb ∣ c.before.args.x ∣ 0 (λ e. c.if-x-eq0.false (ap (of_z w64) (zero_of_abs c.before.args.x e))))
 
 pub same_hue_spec : {M : Type 1} → statement M
 same_hue_spec = tie.close (tie.spec cross-zero cross_else)

@@ -5,10 +5,10 @@ use Rattle.sheet.specs.Sheet.Laws.{abs-change}
 use Rattle.sheet.proofs.verdict.apart.Statement.{statement}
 use Rattle.sheet.proofs.verdict.apart.Tie as tie
 
-below : tie.Need-returns
+below : tie.Need-returns-then-x-y
 below c = omega (arith, abs-change c.before.args.x c.before.args.y)
 
-above : tie.Need-returns-2
+above : tie.Need-returns-else-x-y
 above c = omega (arith, abs-change c.before.args.x c.before.args.y)
 
 pub apart_spec : {M : Type 1} → statement M

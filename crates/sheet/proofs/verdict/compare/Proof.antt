@@ -5,18 +5,18 @@ use Rattle.sheet.specs.Sheet.Laws.{compared-near, compared-pass, compared-fail}
 use Rattle.sheet.proofs.verdict.compare.Statement.{statement}
 use Rattle.sheet.proofs.verdict.compare.Tie as tie
 
-near : tie.Need-returns
-near c = sym (compared-near 20 _ _ (rw c.before.apart.ensures at c.if1.true))
+near : tie.Need-returns-then-apart-le-NEAR
+near c = sym (compared-near 20 _ _ (rw c.before.apart.ensures at c.if-apart-le-NEAR.true))
 
-pass : tie.Need-returns-2
+pass : tie.Need-returns-then-de-tolerance
 pass c =
     let far = c.before in
-    sym (compared-pass 20 _ _ (rw far.before.apart.ensures at far.if1.false) c.if2.true)
+    sym (compared-pass 20 _ _ (rw far.before.apart.ensures at far.if-apart-le-NEAR.false) c.if-de-tolerance.true)
 
-fail : tie.Need-returns-3
+fail : tie.Need-returns-else-de-tolerance
 fail c =
     let far = c.before in
-    sym (compared-fail 20 _ _ (rw far.before.apart.ensures at far.if1.false) c.if2.false)
+    sym (compared-fail 20 _ _ (rw far.before.apart.ensures at far.if-apart-le-NEAR.false) c.if-de-tolerance.false)
 
 pub compare_spec : {M : Type 1} → statement M
 compare_spec = tie.close (tie.spec (λ c κs. search rules) near pass fail)

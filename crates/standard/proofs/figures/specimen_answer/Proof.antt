@@ -15,21 +15,21 @@ use Rattle.standard.proofs.figures.specimen_answer.Tie as tie
 -- the answer from its figures
 answer_is :
     {o : Outcome} (j : Judgement) {F : SpecimenFigures} → o ≡ Judged j →
-    F ≡ specimen_figures j.test j.comparison.C j.comparison.differences →
+    F ≡ specimen_figures j.test-1 j.comparison.C j.comparison.differences-1 →
     ◌≡◌ {A = SpecimenAnswer} (record
     { number = 0; figures = F; names = Names j.lightness j.chroma j.hue j.verdict }) (specimen_answer o)
 unfolding specimen_answer
 answer_is j h f = rw (h, f)
 
-refused : tie.Need-returns
+refused : tie.Need-returns-in-Refused
 unfolding of_bits specimen_answer
-refused c = sym (ap specimen_answer c.before.o.given.1)
+refused c = sym (ap specimen_answer c.before.o-1.given.1)
 
-judged : tie.Need-returns-2
+judged : tie.Need-returns-in-Judged
 judged c =
     let at_test = c.before.before in
     let at-judgement = at_test.before.before in
-    answer_is _ at-judgement.o2.given.1 c.specimen-figures.ensures
+    answer_is _ at-judgement.o-in-Judged-1.given.1 c.specimen_figures-figures.ensures
 
 pub specimen_answer_spec : {M : Type 1} → statement M
 specimen_answer_spec =

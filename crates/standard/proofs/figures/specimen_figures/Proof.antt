@@ -45,9 +45,9 @@ returns c =
     let at_a = at_b.before in
     let at_L = at_a.before in
     let s = at_L.before in
-    figures-are _ _ _ at_L.value.ensures at_a.value2.ensures at_b.value3.ensures at-C.value_of_lem.ensures
-    (at-DL.value4.ensures ∙ ap value_of (DL_back s)) (at-DC.value5.ensures ∙ ap value_of (DC_back s))
-    (at-DH.value6.ensures ∙ ap value_of (DH_back s)) c.value-of2.ensures
+    figures-are _ _ _ at_L.value.ensures at_a.value-2.ensures at_b.value-3.ensures at-C.value_of_lem.ensures
+    (at-DL.value-4.ensures ∙ ap value_of (DL_back s)) (at-DC.value-5.ensures ∙ ap value_of (DC_back s))
+    (at-DH.value-6.ensures ∙ ap value_of (DH_back s)) c.value_of-2.ensures
 
 pub specimen_figures_spec : {M : Type 1} → statement M
 specimen_figures_spec =

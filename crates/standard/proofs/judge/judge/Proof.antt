@@ -6,21 +6,21 @@ use Rattle.standard.specs.Judgement.{outcome}
 use Rattle.standard.proofs.judge.judge.Statement.{statement}
 use Rattle.standard.proofs.judge.judge.Tie as tie
 
-on_grid_lem : tie.Need-judgement-of-requires
+on_grid_lem : tie.Need-judgement_of-requires
 on_grid_lem c κs =
     let at_test = c.before in
     let asked = at_test.before.before.requires in
-    record { standard = asked.standard; test = asked.test _ at_test.test.given.1 }
+    record { standard = asked.standard; test = asked.test-1 _ at_test.test-1.given.1 }
 
-judged : tie.Need-returns
+judged : tie.Need-returns-in-At
 unfolding outcome
 judged c =
     let at_test = c.before.before in
-    ap Judged c.judgement-of.ensures ∙ sym (ap (outcome _) at_test.test.given.1)
+    ap Judged c.judgement_of.ensures ∙ sym (ap (outcome _) at_test.test-1.given.1)
 
-refused : tie.Need-returns-2
+refused : tie.Need-returns-in-Refused
 unfolding outcome
-refused c = let at_test = c.before in sym (ap (outcome _) at_test.test2.given.1)
+refused c = let at_test = c.before in sym (ap (outcome _) at_test.test-in-Refused-1.given.1)
 
 pub judge_spec : {M : Type 1} → statement M
 judge_spec = tie.close (tie.spec (λ c. search rules) on_grid_lem (λ c. search rules) judged refused)

@@ -19,32 +19,32 @@ colour_is :
 colour_is xs h_l ha hb = λ i. record { L = h_l i; a = ha i; b = hb i }
 
 -- ---- where the grid's test is made
-module _ (c : tie.After-is-on-grid) where
-  abbrev at_b : tie.After-grid-at3
+module _ (c : tie.After-is_on_grid) where
+  abbrev at_b : tie.After-grid_at-3
   at_b = c.before
 
   abbrev bytes : List ℕ
-  bytes = let at_L : tie.After-grid-at = at_b.before.before in at_L.before.before.args.s.now
+  bytes = let at_L : tie.After-grid_at = at_b.before.before in at_L.before.before.args.s.now
 
   read :
       record {
-        L = at_b.before.before.grid-at.result;
-        a = at_b.before.grid-at2.result;
-        b = at_b.grid-at3.result;
+        L = at_b.before.before.grid_at.result;
+        a = at_b.before.grid_at-2.result;
+        b = at_b.grid_at-3.result;
       } ≡ colour_in bytes
   read =
-      colour_is bytes at_b.before.before.grid-at.ensures at_b.before.grid-at2.ensures
-      at_b.grid-at3.ensures
+      colour_is bytes at_b.before.before.grid_at.ensures at_b.before.grid_at-2.ensures
+      at_b.grid_at-3.ensures
 
-on_grid_lem : tie.Need-returns
+on_grid_lem : tie.Need-returns-then-is_on_grid
 on_grid_lem c =
     let tested = c.before in
-    sym (placed_is (sym tested.is-on-grid.ensures ∙ c.if1.true)) ∙ ap placed (read tested)
+    sym (placed_is (sym tested.is_on_grid.ensures ∙ c.if-is_on_grid.true)) ∙ ap placed (read tested)
 
-beyond : tie.Need-returns-2
+beyond : tie.Need-returns-else-is_on_grid
 beyond c =
     let tested = c.before in
-    sym (not_placed _ (sym tested.is-on-grid.ensures ∙ c.if1.false)) ∙ ap placed (read tested)
+    sym (not_placed _ (sym tested.is_on_grid.ensures ∙ c.if-is_on_grid.false)) ∙ ap placed (read tested)
 
 pub colour_at_spec : {M : Type 1} → statement M
 colour_at_spec =

@@ -11,10 +11,10 @@ use native.Mathlib.Numerals.{add-one}
 use Rattle.station.proofs.record.copy.Statement.{statement}
 use Rattle.station.proofs.record.copy.Tie as tie
 
-abbrev invariant-loop : tie.invariant-loop
+abbrev invariant-loop : tie.invariant-loop-i
 invariant-loop dst₀ src i₀ dst i = (dst ≡ paste dst₀ 0 src i) × (i ≤ length src) × (length dst ≡ length dst₀)
 
-abbrev decreases-loop : tie.decreases-loop
+abbrev decreases-loop : tie.decreases-loop-i
 decreases-loop dst₀ src i₀ dst i = length src - i
 
 -- a turn's store
@@ -32,32 +32,32 @@ whole d s d₀ j e hd hs =
     let rest : drop (0 + j) d₀ ≡ List.[] = drop_of_length-le d₀ {i = 0 + j} (omega (arith, zero-add j)) in
     e ∙ rw (rest, take_all j s hs) (append-nil s)
 
-loop-holds : tie.Need-loop-init invariant-loop decreases-loop
+loop-holds : tie.Need-loop-i-init invariant-loop decreases-loop
 loop-holds c = (paste-zero c.args.dst.now 0 c.args.src.now, omega arith, refl)
 
-shared_slice_read_dst : tie.Need-shared-slice-read-dst invariant-loop decreases-loop
+shared_slice_read_dst : tie.Need-bounds-src-i invariant-loop decreases-loop
 shared_slice_read_dst c = omega arith
 
-slice-write-dst : tie.Need-slice-write-dst invariant-loop decreases-loop
+slice-write-dst : tie.Need-bounds-dst-i invariant-loop decreases-loop
 slice-write-dst c = omega arith
 
-add_i : tie.Need-overflow-add-i invariant-loop decreases-loop
+add_i : tie.Need-overflow_add-i invariant-loop decreases-loop
 add_i c = omega arith
 
-loop-less : tie.Need-loop-smaller invariant-loop decreases-loop
+loop-less : tie.Need-loop-i-smaller invariant-loop decreases-loop
 loop-less c = omega arith
 
-loop-again : tie.Need-loop-preserved invariant-loop decreases-loop
+loop-again : tie.Need-loop-i-preserved invariant-loop decreases-loop
 loop-again c =
     let turn = c.before.before in
-    let inv = turn.loop.invariant in
+    let inv = turn.loop-i.invariant in
     (stored_next _ _ _ _ inv.0 turn.before.requires (omega arith), omega arith, simp length-set inv.2)
 
-same_length : tie.Need-same-length invariant-loop decreases-loop
-same_length c = c.before.loop.invariant.2
+same_length : tie.Need-shape_of-dst invariant-loop decreases-loop
+same_length c = c.before.loop-i.invariant.2
 
 returns : tie.Need-returns invariant-loop decreases-loop
-returns c = whole _ _ _ _ c.before.loop.invariant.0 c.before.before.requires c.loop-test.false
+returns c = whole _ _ _ _ c.before.loop-i.invariant.0 c.before.before.requires c.loop-i-test.false
 
 pub copy_spec : {M : Type 1} → statement M
 copy_spec =

@@ -24,9 +24,9 @@ returns c =
     let at_l_lem = at_c.before in
     let at_white_lem = at_l_lem.before in
     let at_formula_lem = at_white_lem.before.before in
-    settings-are _ at_formula_lem.wide.ensures.0 at_white_lem.wide2.ensures.0 at_l_lem.two_at.ensures
-    at_c.two-at2.ensures
-    at-tolerance.two-at3.ensures c.settings-of.ensures
+    settings-are _ at_formula_lem.wide.ensures.0 at_white_lem.wide-2.ensures.0 at_l_lem.two_at.ensures
+    at_c.two_at-2.ensures
+    at-tolerance.two_at-3.ensures c.settings_of.ensures
 
 pub settings_at_spec : {M : Type 1} → statement M
 settings_at_spec =

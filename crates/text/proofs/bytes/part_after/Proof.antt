@@ -4,15 +4,15 @@ use Rattle.text.specs.Bytes.Laws.{drop-after, nothing-after}
 use Rattle.text.proofs.bytes.part_after.Statement.{statement}
 use Rattle.text.proofs.bytes.part_after.Tie as tie
 
-returns : tie.Need-returns
+returns : tie.Need-returns-then-i-s
 returns c =
     let f = c.before.before in
-    drop-after _ _ f.find.ensures
+    drop-after _ _ f.find-i.ensures
 
-returns-2 : tie.Need-returns-2
+returns-2 : tie.Need-returns-else-i-s
 returns-2 c =
     let f = c.before.before in
-    nothing-after _ _ f.find.ensures c.before.if1.false
+    nothing-after _ _ f.find-i.ensures c.before.if-i-s.false
 
 pub part_after_spec : {M : Type 1} → statement M
 part_after_spec =

@@ -5,13 +5,13 @@ use Rattle.text.specs.Bytes.{same_bytes}
 use Rattle.text.proofs.bytes.same.Statement.{statement}
 use Rattle.text.proofs.bytes.same.Tie as tie
 
-returns : tie.Need-returns
+returns : tie.Need-returns-then-s-t
 unfolding same_bytes
-returns c = simp (eq-eqb _ _ c.before.if1.true) c.starts.ensures
+returns c = simp (eq-eqb _ _ c.before.if-s-t.true) c.starts.ensures
 
-returns-2 : tie.Need-returns-2
+returns-2 : tie.Need-returns-else-s-t
 unfolding same_bytes
-returns-2 c = simp (ne_eqb _ _ c.if1.false)
+returns-2 c = simp (ne_eqb _ _ c.if-s-t.false)
 
 pub same_spec : {M : Type 1} → statement M
 same_spec = tie.close (tie.spec (λ c κs. search rules) returns returns-2)

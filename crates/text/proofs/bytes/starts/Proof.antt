@@ -15,41 +15,41 @@ record Passed (s key : List ℕ) (i : ℕ) : Type 0 where
   within : i ≤ length key
   fits : length key ≤ length s
 
-abbrev invariant-loop : tie.invariant-loop
+abbrev invariant-loop : tie.invariant-loop-i
 invariant-loop s key i₀ i = Passed s key i
 
-abbrev decreases-loop : tie.decreases-loop
+abbrev decreases-loop : tie.decreases-loop-i
 decreases-loop s key i₀ i = length key - i
 
-short : tie.Need-returns invariant-loop decreases-loop
+short : tie.Need-returns-then-s-key invariant-loop decreases-loop
 short c =
     let a = c.before.args in
-    sym (starts-short a.key.now a.s.now c.if1.true)
+    sym (starts-short a.key.now a.s.now c.if-s-key.true)
 
-differs : tie.Need-returns-2 invariant-loop decreases-loop
+differs : tie.Need-returns-then-key-i invariant-loop decreases-loop
 differs c =
     let compared = c.before in
     let turn = compared.before.before in
     let l = turn.before in
     let a = l.before.before.args in
-    sym (l.loop.invariant.goes_on ∙ starts_false a.key.now a.s.now l.loop.i turn.loop-test.true
-    l.loop.invariant.fits c.if2.true)
+    sym (l.loop-i.invariant.goes_on ∙ starts_false a.key.now a.s.now l.loop-i.i turn.loop-i-test.true
+    l.loop-i.invariant.fits c.if-key-i.true)
 
-loop-again : tie.Need-loop-preserved invariant-loop decreases-loop
+loop-again : tie.Need-loop-i-preserved invariant-loop decreases-loop
 loop-again c =
     let compared = c.before in
     let turn = compared.before.before in
     let l = turn.before in
     let a = l.before.before.args in
     let next =
-    starts-next a.key.now a.s.now l.loop.i turn.loop-test.true l.loop.invariant.fits c.if2.false in
-    record { goes_on = l.loop.invariant.goes_on ∙ next; within = omega arith; fits = l.loop.invariant.fits }
+    starts-next a.key.now a.s.now l.loop-i.i turn.loop-i-test.true l.loop-i.invariant.fits c.if-key-i.false in
+    record { goes_on = l.loop-i.invariant.goes_on ∙ next; within = omega arith; fits = l.loop-i.invariant.fits }
 
-whole : tie.Need-returns-3 invariant-loop decreases-loop
+whole : tie.Need-returns invariant-loop decreases-loop
 whole c =
     let l = c.before in
     let a = l.before.before.args in
-    sym (l.loop.invariant.goes_on ∙ starts_true a.key.now a.s.now l.loop.i c.loop-test.false)
+    sym (l.loop-i.invariant.goes_on ∙ starts_true a.key.now a.s.now l.loop-i.i c.loop-i-test.false)
 
 pub starts_spec : {M : Type 1} → statement M
 starts_spec =

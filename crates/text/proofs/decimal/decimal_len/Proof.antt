@@ -8,18 +8,18 @@ use Rattle.text.specs.Decimal.Laws.{last_digits_length, decimal-length}
 use Rattle.text.proofs.decimal.decimal_len.Statement.{statement}
 use Rattle.text.proofs.decimal.decimal_len.Tie as tie
 
-returns : tie.Need-returns
+returns : tie.Need-returns-then-d
 returns c =
     let d = c.before.before.before.args.d in
-    let sign : length (minus_sign d.minus) ≡ 1 = ap (λ b. length (minus_sign b)) c.if1.true in
+    let sign : length (minus_sign d.minus) ≡ 1 = ap (λ b. length (minus_sign b)) c.if-d.true in
     let whole = decimal-length d in
     let digits = last_digits_length (width d.whole) d.whole in
     (omega arith, omega arith)
 
-returns-2 : tie.Need-returns-2
+returns-2 : tie.Need-returns-else-d
 returns-2 c =
     let d = c.before.before.before.args.d in
-    let sign : length (minus_sign d.minus) ≡ 0 = ap (λ b. length (minus_sign b)) c.if1.false in
+    let sign : length (minus_sign d.minus) ≡ 0 = ap (λ b. length (minus_sign b)) c.if-d.false in
     let whole = decimal-length d in
     let digits = last_digits_length (width d.whole) d.whole in
     (omega arith, omega arith)

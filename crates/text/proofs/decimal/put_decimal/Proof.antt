@@ -6,29 +6,29 @@ use Rattle.text.specs.Decimal.{decimal_pieces, decimal_text}
 use Rattle.text.proofs.decimal.put_decimal.Statement.{statement}
 use Rattle.text.proofs.decimal.put_decimal.Tie as tie
 
-put-minus-requires : tie.Need-put-minus-requires
+put-minus-requires : tie.Need-put_minus-after_minus-requires
 unfolding decimal_text
 put-minus-requires c κs =
     let start = c.before.before in
     room_first (room_for_all (decimal_pieces start.args.d) start.requires)
 
-put-whole-requires : tie.Need-put-whole-requires
+put-whole-requires : tie.Need-put_whole-after_whole-requires
 unfolding decimal_text
 put-whole-requires c κs =
     let minus = c.before.before.before in
     let start = minus.before.before.before in
-    room-second (room_for_all (decimal_pieces start.args.d) start.requires) minus.put-minus.ensures
+    room-second (room_for_all (decimal_pieces start.args.d) start.requires) minus.put_minus-after_minus.ensures
 
-put-requires : tie.Need-put-requires
+put-requires : tie.Need-put-after_point-requires
 unfolding decimal_text
 put-requires c κs =
     let whole = c.before.before.before.before in
     let minus = whole.before.before.before.before in
     let start = minus.before.before.before in
     let row = room_for_all (decimal_pieces start.args.d) start.requires in
-    room-third row minus.put-minus.ensures whole.put_whole.ensures
+    room-third row minus.put_minus-after_minus.ensures whole.put_whole-after_whole.ensures
 
-put-digits-requires : tie.Need-put-digits-requires
+put-digits-requires : tie.Need-put_digits-requires
 unfolding decimal_text
 put-digits-requires c κs =
     let point = c.before.before.before.before in
@@ -36,7 +36,7 @@ put-digits-requires c κs =
     let minus = whole.before.before.before.before in
     let start = minus.before.before.before in
     let row = room_for_all (decimal_pieces start.args.d) start.requires in
-    room-fourth row minus.put-minus.ensures whole.put_whole.ensures point.put.ensures
+    room-fourth row minus.put_minus-after_minus.ensures whole.put_whole-after_whole.ensures point.put-after_point.ensures
 
 returns : tie.Need-returns
 unfolding decimal_text
@@ -47,8 +47,8 @@ returns c =
     let minus = whole.before.before.before.before in
     let start = minus.before.before.before in
     let row = room_for_all (decimal_pieces start.args.d) start.requires in
-    puts_joined (puts_four row minus.put-minus.ensures whole.put_whole.ensures point.put.ensures
-    places.put-digits.ensures)
+    puts_joined (puts_four row minus.put_minus-after_minus.ensures whole.put_whole-after_whole.ensures point.put-after_point.ensures
+    places.put_digits.ensures)
 
 pub put_decimal_spec : {M : Type 1} → statement M
 put_decimal_spec =

@@ -53,20 +53,20 @@ module _ {d₀ d : List ℕ} {at k n left j : ℕ} (p : Digits d₀ at k n d lef
       let none : j ≡ 0 = omega arith in
       record { end = rw last_digits_length; bytes = p.done ∙ rw none (simp (add-zero, sub-zero)) }
 
-abbrev invariant-loop : tie.invariant-loop
+abbrev invariant-loop : tie.invariant-loop-j
 invariant-loop dst₀ at k n left₀ j₀ dst left j = Digits dst₀ at k n dst left j
 
-abbrev decreases-loop : tie.decreases-loop
+abbrev decreases-loop : tie.decreases-loop-j
 decreases-loop dst₀ at k n left₀ j₀ dst left j = j
 
-loop-holds : tie.Need-loop-init invariant-loop decreases-loop
+loop-holds : tie.Need-loop-j-init invariant-loop decreases-loop
 loop-holds c = digits_none _ _ _ _ (omega (arith, last_digits_length c.args.k c.args.n))
 
-loop-again : tie.Need-loop-preserved invariant-loop decreases-loop
-loop-again c = digits_more c.before.loop.invariant (omega arith)
+loop-again : tie.Need-loop-j-preserved invariant-loop decreases-loop
+loop-again c = digits_more c.before.loop-j.invariant (omega arith)
 
 returns : tie.Need-returns invariant-loop decreases-loop
-returns c = digits_all c.before.loop.invariant c.loop-test.false
+returns c = digits_all c.before.loop-j.invariant c.loop-j-test.false
 
 pub put_digits_spec : {M : Type 1} → statement M
 put_digits_spec =
@@ -83,5 +83,5 @@ put_digits_spec =
     (λ c. omega arith)
     loop-again
     (λ c. omega arith)
-    (λ c. c.before.loop.invariant.same)
+    (λ c. c.before.loop-j.invariant.same)
     returns)

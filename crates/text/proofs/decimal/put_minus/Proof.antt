@@ -9,16 +9,16 @@ use Rattle.text.proofs.decimal.put_minus.Tie as tie
 put-requires : tie.Need-put-requires
 put-requires c κs =
     let arm = c.before.before in
-    room_as (ap minus_sign arm.if1.true) arm.before.before.requires
+    room_as (ap minus_sign arm.if-shows.true) arm.before.before.requires
 
-returns : tie.Need-returns
+returns : tie.Need-returns-then-shows
 returns c =
     let at-put = c.before.before in
     let arm = at-put.before.before.before in
-    puts_as (sym (ap minus_sign arm.if1.true)) at-put.put.ensures
+    puts_as (sym (ap minus_sign arm.if-shows.true)) at-put.put.ensures
 
-returns-2 : tie.Need-returns-2
-returns-2 c = puts_as (sym (ap minus_sign c.if1.false)) (puts_nil _ _)
+returns-2 : tie.Need-returns
+returns-2 c = puts_as (sym (ap minus_sign c.if-shows.false)) (puts_nil _ _)
 
 pub put_minus_spec : {M : Type 1} → statement M
 put_minus_spec =

@@ -11,10 +11,10 @@ use Rattle.text.proofs.number.fraction.Tie as tie
 
 -- where the digits are read, and what is known before
 module _ (read : tie.After-digits) where
-  abbrev at_part : tie.After-part-after
+  abbrev at_part : tie.After-part_after-t
   at_part = read.before
 
-  abbrev at_point : tie.Then1
+  abbrev at_point : tie.Then-find-s
   at_point = at_part.before
 
   abbrev at_find : tie.After-find
@@ -23,40 +23,40 @@ module _ (read : tie.After-digits) where
   abbrev start : tie.Start
   start = at_find.before.before
 
-few-places : tie.Need-overflow-sub-power
+few-places : tie.Need-overflow_sub-places
 few-places c =
     let bound = c.before in
     let read = bound.before.before in
-    (digits_lt _ _ (sym read.digits.ensures ∙ ap number_in bound.d.given.1)).few
+    (digits_lt _ _ (sym read.digits.ensures ∙ ap number_in bound.d-1.given.1)).few
 
-product-fits : tie.Need-overflow-mul-t14
+product-fits : tie.Need-overflow_mul-result
 product-fits c =
     let bound = c.before.before in
     let read = bound.before.before in
     omega (
       arith,
-      moved-lt _ _ (start read).requires (sym read.digits.ensures ∙ ap number_in bound.d.given.1)
+      moved-lt _ _ (start read).requires (sym read.digits.ensures ∙ ap number_in bound.d-1.given.1)
           c.power.ensures,
     )
 
-no_digits : tie.Need-returns
+no_digits : tie.Need-returns-in-Nothing
 no_digits c =
     let read = c.before.before in
-    fraction_is _ _ (at_find read).find.ensures (at_point read).if1.true (at_part read).part-after.ensures
+    fraction_is _ _ (at_find read).find.ensures (at_point read).if-find-s.true (at_part read).part_after-t.ensures
     read.digits.ensures
-    (ap number_in c.enum_told.given.1)
+    (ap number_in c.enum_told-1.given.1)
 
-digits : tie.Need-returns-2
+digits : tie.Need-returns-in-Is
 digits c =
     let bound = c.before.before in
     let read = bound.before.before in
-    ap (λ (q : ℕ). some (bound.d.given.0.0 * q)) c.power.ensures
-    ∙ fraction_is _ _ (at_find read).find.ensures (at_point read).if1.true (at_part read).part-after.ensures
+    ap (λ (q : ℕ). some (bound.d-1.given.0.0 * q)) c.power.ensures
+    ∙ fraction_is _ _ (at_find read).find.ensures (at_point read).if-find-s.true (at_part read).part_after-t.ensures
     read.digits.ensures
-    (ap number_in bound.d.given.1)
+    (ap number_in bound.d-1.given.1)
 
-no_point : tie.Need-returns-3
-no_point c = fraction-zero _ _ c.before.find.ensures c.if1.false
+no_point : tie.Need-returns-else-find-s
+no_point c = fraction-zero _ _ c.before.find.ensures c.if-find-s.false
 
 pub fraction_spec : {M : Type 1} → statement M
 fraction_spec =

@@ -7,45 +7,45 @@ use Rattle.text.proofs.number.signed.Statement.{statement}
 use Rattle.text.proofs.number.signed.Tie as tie
 
 has_one : tie.Need-overflow-sub-decimal
-has_one c = length_le_of_starts _ _ (sym c.before.starts.ensures ∙ c.if1.true)
+has_one c = length_le_of_starts _ _ (sym c.before.starts.ensures ∙ c.if-starts.true)
 
 starts_at_one : tie.Need-slice-bounds-decimal-start
-starts_at_one c = length_le_of_starts _ _ (sym c.before.starts.ensures ∙ c.if1.true)
+starts_at_one c = length_le_of_starts _ _ (sym c.before.starts.ensures ∙ c.if-starts.true)
 
 -- where the decimal after a minus is read
 module _ (read : tie.After-decimal) where
-  abbrev minus : tie.Then1
+  abbrev minus : tie.Then-starts
   minus = read.before.before
 
-below_none : tie.Need-returns
+below_none : tie.Need-returns-in-Nothing
 below_none c =
     let read = c.before.before in
     let m = minus read in
-    signed_below _ m.before.starts.ensures m.if1.taken read.decimal.ensures
-    (ap number_in c.enum_told.given.1)
+    signed_below _ m.before.starts.ensures m.if-starts.taken read.decimal.ensures
+    (ap number_in c.enum_told-1.given.1)
 
-below : tie.Need-returns-2
+below : tie.Need-returns-in-Is
 below c =
     let bound = c.before in
     let read = bound.before.before in
     let m = minus read in
-    signed_below _ m.before.starts.ensures m.if1.taken read.decimal.ensures
-    (ap number_in bound.m.given.1)
+    signed_below _ m.before.starts.ensures m.if-starts.taken read.decimal.ensures
+    (ap number_in bound.m-1.given.1)
 
-above_none : tie.Need-returns-3
+above_none : tie.Need-returns-in-Nothing-decimal
 above_none c =
     let read = c.before.before in
     let no_minus = read.before in
-    signed_above _ no_minus.before.starts.ensures no_minus.if1.false read.decimal2.ensures
-    (ap number_in c.enum-told2.given.1)
+    signed_above _ no_minus.before.starts.ensures no_minus.if-starts.false read.decimal-else-starts.ensures
+    (ap number_in c.enum_told-in-Nothing-decimal-1.given.1)
 
-above : tie.Need-returns-4
+above : tie.Need-returns-in-Is-decimal
 above c =
     let bound = c.before in
     let read = bound.before.before in
     let no_minus = read.before in
-    signed_above _ no_minus.before.starts.ensures no_minus.if1.false read.decimal2.ensures
-    (ap number_in bound.m2.given.1)
+    signed_above _ no_minus.before.starts.ensures no_minus.if-starts.false read.decimal-else-starts.ensures
+    (ap number_in bound.m-in-Is-decimal-2-1.given.1)
 
 pub signed_spec : {M : Type 1} → statement M
 signed_spec =

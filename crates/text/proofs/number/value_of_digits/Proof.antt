@@ -16,70 +16,70 @@ record Passed (s : List ℕ) (v i : ℕ) : Type 0 where
   within : i ≤ length s
   small : v < 10 ^ i
 
-abbrev invariant-loop : tie.invariant-loop
+abbrev invariant-loop : tie.invariant-loop-i
 invariant-loop s v₀ i₀ v i = Passed s v i
 
-abbrev decreases-loop : tie.decreases-loop
+abbrev decreases-loop : tie.decreases-loop-i
 decreases-loop s v₀ i₀ v i = length s - i
 
 -- the turn of the loop in which a byte is seen to be at least 48
-module _ (e : tie.Else1 invariant-loop decreases-loop) where
-  abbrev turn : tie.In-loop invariant-loop decreases-loop
+module _ (e : tie.Else-b-lt48 invariant-loop decreases-loop) where
+  abbrev turn : tie.In-loop-i invariant-loop decreases-loop
   turn = e.before.before
 
-  abbrev at_turn : tie.At-loop invariant-loop decreases-loop
+  abbrev at_turn : tie.At-loop-i invariant-loop decreases-loop
   at_turn = turn.before
 
-low : tie.Need-returns invariant-loop decreases-loop
+low : tie.Need-returns-then-b-lt48 invariant-loop decreases-loop
 low c =
     let turn = c.before.before in
     let l = turn.before in
     let a = l.before.before.args in
-    sym (l.loop.invariant.goes_on ∙ numeral_none_of_low l.loop.v a.s.now l.loop.i turn.loop-test.true
-    c.if1.true)
+    sym (l.loop-i.invariant.goes_on ∙ numeral_none_of_low l.loop-i.v a.s.now l.loop-i.i turn.loop-i-test.true
+    c.if-b-lt48.true)
 
-high : tie.Need-returns-2 invariant-loop decreases-loop
+high : tie.Need-returns-then-b-gt57 invariant-loop decreases-loop
 high c =
     let not_low = c.before in
     let l = at_turn not_low in
     let a = l.before.before.args in
     sym
-    (l.loop.inv.goes_on
-    ∙ numeral_none_of_high l.loop.v a.s.now l.loop.i (turn not_low).loop-test.true not_low.if1.false
-    c.if2.true)
+    (l.loop-i.inv.goes_on
+    ∙ numeral_none_of_high l.loop-i.v a.s.now l.loop-i.i (turn not_low).loop-i-test.true not_low.if-b-lt48.false
+    c.if-b-gt57.true)
 
-mul_v : tie.Need-overflow-mul-v invariant-loop decreases-loop
+mul_v : tie.Need-overflow_mul-v invariant-loop decreases-loop
 mul_v c =
     let l = at_turn c.before in
-    omega (arith, five-digits-lt l.loop.v l.loop.i l.loop.inv.small (omega arith))
+    omega (arith, five-digits-lt l.loop-i.v l.loop-i.i l.loop-i.inv.small (omega arith))
 
-add_v : tie.Need-overflow-add-v invariant-loop decreases-loop
+add_v : tie.Need-overflow_add-v invariant-loop decreases-loop
 add_v c =
     let l = at_turn c.before.before in
-    omega (arith, five-digits-lt l.loop.v l.loop.i l.loop.inv.small (omega arith))
+    omega (arith, five-digits-lt l.loop-i.v l.loop-i.i l.loop-i.inv.small (omega arith))
 
-loop-again : tie.Need-loop-preserved invariant-loop decreases-loop
+loop-again : tie.Need-loop-i-preserved invariant-loop decreases-loop
 loop-again c =
     let digit = c.before in
     let l = at_turn digit.before in
     let a = l.before.before.args in
     let d = c.wide in
     let next =
-    numeral-next l.loop.v a.s.now l.loop.i (turn digit.before).loop-test.taken
-    digit.before.if1.false digit.if2.false in
+    numeral-next l.loop-i.v a.s.now l.loop-i.i (turn digit.before).loop-i-test.taken
+    digit.before.if-b-lt48.false digit.if-b-gt57.false in
     record {
       goes_on =
-          l.loop.inv.goes_on ∙ next ∙ ap
-          (λ (x : ℕ). numeral (l.loop.v * 10 + x) (drop (l.loop.i + 1) a.s.now)) (sym d.ensures);
+          l.loop-i.inv.goes_on ∙ next ∙ ap
+          (λ (x : ℕ). numeral (l.loop-i.v * 10 + x) (drop (l.loop-i.i + 1) a.s.now)) (sym d.ensures);
       within = omega arith;
-      small = digit_more l.loop.v d.result l.loop.i l.loop.inv.small (omega arith);
+      small = digit_more l.loop-i.v d.result l.loop-i.i l.loop-i.inv.small (omega arith);
     }
 
-end : tie.Need-returns-3 invariant-loop decreases-loop
+end : tie.Need-returns invariant-loop decreases-loop
 end c =
     let l = c.before in
     let a = l.before.before.args in
-    sym (l.loop.invariant.goes_on ∙ numeral_end l.loop.v a.s.now l.loop.i c.loop-test.false)
+    sym (l.loop-i.invariant.goes_on ∙ numeral_end l.loop-i.v a.s.now l.loop-i.i c.loop-i-test.false)
 
 pub value_of_digits_spec : {M : Type 1} → statement M
 value_of_digits_spec =

@@ -6,21 +6,21 @@ use Rattle.ticket.specs.Ticket.Laws.{due-read, thousandths_of_nil, factors_missi
 use Rattle.ticket.proofs.lines.factor_lines.Statement.{statement}
 use Rattle.ticket.proofs.lines.factor_lines.Tie as tie
 
-missing : tie.Need-returns
+missing : tie.Need-returns-then-starts
 missing c =
     let tol = c.before in
-    c.tol-line.ensures ∙ factors_missing _ _ _ tol.before.starts.ensures tol.if1.true
+    c.tol_line.ensures ∙ factors_missing _ _ _ tol.before.starts.ensures tol.if-starts.true
 
-wrong : tie.Need-returns-2
+wrong : tie.Need-returns-in-Nothing
 wrong c =
     let read = c.before.before in
     let at_value = read.before in
     let given = at_value.before.before in
     due-read _ _ _ _ _ thousandths_of_nil at_value.value.ensures read.thousandths.ensures
-    (ap number_in c.enum_told.given.1) refl refl
-    ∙ factors_given _ _ _ given.before.starts.ensures given.if1.false
+    (ap number_in c.enum_told-1.given.1) refl refl
+    ∙ factors_given _ _ _ given.before.starts.ensures given.if-starts.false
 
-right : tie.Need-returns-3
+right : tie.Need-returns-in-Is
 right c =
     let rest = c.before in
     let bound = rest.before.before in
@@ -28,9 +28,9 @@ right c =
     let at_value = read.before in
     let given = at_value.before.before in
     due-read _ _ _ _ _ thousandths_of_nil at_value.value.ensures read.thousandths.ensures
-    (ap number_in bound.x.given.1)
-    rest.part-after.ensures c.c-line.ensures
-    ∙ factors_given _ _ _ given.before.starts.ensures given.if1.false
+    (ap number_in bound.x-1.given.1)
+    rest.part_after-rest.ensures c.c_line.ensures
+    ∙ factors_given _ _ _ given.before.starts.ensures given.if-starts.false
 
 pub factor_lines_spec : {M : Type 1} → statement M
 factor_lines_spec =

@@ -7,35 +7,35 @@ use Rattle.ticket.specs.Ticket.Laws.{value_nil_of_no_line, value_nil_of_key, dro
 use Rattle.ticket.proofs.lines.value.Statement.{statement}
 use Rattle.ticket.proofs.lines.value.Tie as tie
 
-no_line : tie.Need-returns
+no_line : tie.Need-returns-then-s-i
 no_line c =
     let short = c.before in
-    value_nil_of_no_line _ _ short.before.find.ensures short.if1.true
+    value_nil_of_no_line _ _ short.before.find-i.ensures short.if-s-i.true
 
-slice-aggregate-line : tie.Need-slice-aggregate-line
-slice-aggregate-line c = sym (length-take-le _ _ c.before.before.find.ensures.within)
+slice-aggregate-line : tie.Need-slice_bounds-line-end
+slice-aggregate-line c = sym (length-take-le _ _ c.before.before.find-i.ensures.within)
 
 sub_result : tie.Need-overflow-sub-result
-sub_result c = length_le_of_starts _ _ (sym c.before.starts.ensures ∙ c.if2.true)
+sub_result c = length_le_of_starts _ _ (sym c.before.starts.ensures ∙ c.if-starts.true)
 
 part_result_start : tie.Need-slice-bounds-result-start
-part_result_start c = length_le_of_starts _ _ (sym c.before.starts.ensures ∙ c.if2.true)
+part_result_start c = length_le_of_starts _ _ (sym c.before.starts.ensures ∙ c.if-starts.true)
 
-keyed : tie.Need-returns-2
+keyed : tie.Need-returns-then-starts
 keyed c =
     let key = c.before in
     let at = key.before in
     let line = at.before.before in
-    let f = line.before.find.ensures in
-    drop_key_value _ _ f line.if1.false (take_before _ _ f) (sym at.starts.ensures ∙ key.if2.true)
+    let f = line.before.find-i.ensures in
+    drop_key_value _ _ f line.if-s-i.false (take_before _ _ f) (sym at.starts.ensures ∙ key.if-starts.true)
 
-other_key : tie.Need-returns-3
+other_key : tie.Need-returns-else-starts
 other_key c =
     let key = c.before in
     let at = key.before in
     let line = at.before.before in
-    let f = line.before.find.ensures in
-    value_nil_of_key _ _ f line.if1.false (take_before _ _ f) (sym at.starts.ensures ∙ key.if2.false)
+    let f = line.before.find-i.ensures in
+    value_nil_of_key _ _ f line.if-s-i.false (take_before _ _ f) (sym at.starts.ensures ∙ key.if-starts.false)
 
 pub value_spec : {M : Type 1} → statement M
 value_spec =

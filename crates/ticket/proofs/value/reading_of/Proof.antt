@@ -14,8 +14,8 @@ reading c =
     let x = second.before in
     let first = x.before in
     c.together.ensures
-    ∙ reading_is _ _ first.before.part-after.ensures first.part-before.ensures x.signed.ensures
-    second.part-before2.ensures y.signed2.ensures third.part-after2.ensures z.signed3.ensures
+    ∙ reading_is _ _ first.before.part_after-t.ensures first.part_before.ensures x.signed-x.ensures
+    second.part_before-2.ensures y.signed-y.ensures third.part_after.ensures z.signed-z.ensures
 
 pub reading_of_spec : {M : Type 1} → statement M
 reading_of_spec =

@@ -16,15 +16,15 @@ all_three :
     → some w ≡ three (in_space space) p q r
 all_three space ep eq er ew = rw (ep, eq, er, ew)
 
-read : tie.Need-returns-4
+read : tie.Need-returns-in-Is-r
 read c =
     let z = c.before.before in
     let second = z.before.before in
     let y = second.before in
     let first = y.before.before in
     let x = first.before in
-    all_three _ (ap signed_in x.p.given.1) (ap signed_in y.q.given.1) (ap signed_in z.r.given.1)
-    c.in-space.ensures
+    all_three _ (ap signed_in x.p-1.given.1) (ap signed_in y.q-1.given.1) (ap signed_in z.r-1.given.1)
+    c.in_space.ensures
 
 pub together_spec : {M : Type 1} → statement M
 together_spec =

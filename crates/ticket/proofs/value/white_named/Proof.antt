@@ -10,42 +10,42 @@ use Rattle.ticket.specs.Ticket.Laws.{named_none, named_first, named_other}
 use Rattle.ticket.proofs.value.white_named.Statement.{statement}
 use Rattle.ticket.proofs.value.white_named.Tie as tie
 
-module _ (c : tie.Else1) where
+module _ (c : tie.Else-same) where
   abbrev s : List ℕ
   s = c.before.before.before.before.args.s.now
 
   not_first : named white_name (D65Two ∷ CTen ∷ CTwo ∷ []) s ≡ white_named s
-  not_first = named_other _ _ _ _ c.before.same.ensures c.if1.false
+  not_first = named_other _ _ _ _ c.before.same.ensures c.if-same.false
 
-module _ (c : tie.Else2) where
+module _ (c : tie.Else-same-2) where
   abbrev s2 : List ℕ
   s2 = s c.before.before.before
 
   not_second : named white_name (CTen ∷ CTwo ∷ []) s2 ≡ white_named s2
-  not_second = named_other _ _ _ _ c.before.same2.ensures c.if2.false ∙ not_first c.before.before.before
+  not_second = named_other _ _ _ _ c.before.same-2.ensures c.if-same-2.false ∙ not_first c.before.before.before
 
-module _ (c : tie.Else3) where
+module _ (c : tie.Else-same-3) where
   abbrev s3 : List ℕ
   s3 = s2 c.before.before.before
 
   not_third : named white_name (CTwo ∷ []) s3 ≡ white_named s3
-  not_third = named_other _ _ _ _ c.before.same3.ensures c.if3.false ∙ not_second c.before.before.before
+  not_third = named_other _ _ _ _ c.before.same-3.ensures c.if-same-3.false ∙ not_second c.before.before.before
 
-d65_10 : tie.Need-returns
-d65_10 c = named_first _ _ _ _ c.before.same.ensures c.if1.true
+d65_10 : tie.Need-returns-then-same
+d65_10 c = named_first _ _ _ _ c.before.same.ensures c.if-same.true
 
-d65_2 : tie.Need-returns-2
-d65_2 c = named_first _ _ _ _ c.before.same2.ensures c.if2.true ∙ not_first c.before.before.before
+d65_2 : tie.Need-returns-then-same-2
+d65_2 c = named_first _ _ _ _ c.before.same-2.ensures c.if-same-2.true ∙ not_first c.before.before.before
 
-c_10 : tie.Need-returns-3
-c_10 c = named_first _ _ _ _ c.before.same3.ensures c.if3.true ∙ not_second c.before.before.before
+c_10 : tie.Need-returns-then-same-3
+c_10 c = named_first _ _ _ _ c.before.same-3.ensures c.if-same-3.true ∙ not_second c.before.before.before
 
-c_2 : tie.Need-returns-4
-c_2 c = named_first _ _ _ _ c.before.same4.ensures c.if4.true ∙ not_third c.before.before.before
+c_2 : tie.Need-returns-then-same-4
+c_2 c = named_first _ _ _ _ c.before.same-4.ensures c.if-same-4.true ∙ not_third c.before.before.before
 
-no_name : tie.Need-returns-5
+no_name : tie.Need-returns
 no_name c =
-    named_none _ _ ∙ named_other _ _ _ _ c.before.same4.ensures c.if4.false
+    named_none _ _ ∙ named_other _ _ _ _ c.before.same-4.ensures c.if-same-4.false
     ∙ not_third c.before.before.before
 
 pub white_named_spec : {M : Type 1} → statement M

@@ -6,23 +6,23 @@ use Rattle.sheet.specs.Settings.{formula_numbered}
 use Rattle.sheet.proofs.formula.Formula.numbered.Statement.{statement}
 use Rattle.sheet.proofs.formula.Formula.numbered.Tie as tie
 
-one : tie.Need-returns
+one : tie.Need-returns-in-1
 unfolding formula_numbered
-one c = sym (ap formula_numbered c.match.keys1)
+one c = sym (ap formula_numbered c.in-1.keys1)
 
-two : tie.Need-returns-2
+two : tie.Need-returns-in-2
 unfolding formula_numbered
-two c = sym (ap formula_numbered c.match.keys2)
+two c = sym (ap formula_numbered c.in-1.keys2)
 
-three : tie.Need-returns-3
+three : tie.Need-returns-in-3
 unfolding formula_numbered
-three c = sym (ap formula_numbered c.match.keys3)
+three c = sym (ap formula_numbered c.in-1.keys3)
 
-none : tie.Need-returns-4
+none : tie.Need-returns-in_default
 unfolding formula_numbered
 none c =
     let n = c.before.args.n in
-    let others = c.match.rest in
+    let others = c.in-1.rest in
     simp (ne_eqb n 1 others.0.0.1, ne_eqb n 2 others.0.1, ne_eqb n 3 others.1)
 
 pub numbered_spec : {M : Type 1} → statement M

@@ -13,47 +13,47 @@ row :
     v ≡ verdict_on 20 tolerance de
 row ht hd e = e ∙ sym (ap₂ (verdict_on 20) ht hd)
 
-cielab : tie.Need-returns
+cielab : tie.Need-returns-in-Cielab-tolerance
 unfolding verdict_on
 cielab c =
     let t = c.before.before in
-    row t.tolerance.given.1 t.before.before.before.self.given.1 c.compare.ensures
+    row t.tolerance-1.given.1 t.before.before.before.self-1.given.1 c.compare.ensures
 
-cie94 : tie.Need-returns-5
+cie94 : tie.Need-returns-in-Cie94-tolerance-2
 unfolding verdict_on
 cie94 c =
     let t = c.before.before in
-    row t.tolerance2.given.1 t.before.before.before.self2.given.1 c.compare2.ensures
+    row t.tolerance-in-Cie94-1.given.1 t.before.before.before.self-in-Cie94-self-1.given.1 c.compare-in-Cie94-tolerance-2.ensures
 
-cmc : tie.Need-returns-9
+cmc : tie.Need-returns-in-Cmc-tolerance-3
 unfolding verdict_on
 cmc c =
     let t = c.before.before in
-    row t.tolerance3.given.1 t.before.before.before.self3.given.1 c.compare3.ensures
+    row t.tolerance-in-Cmc-1.given.1 t.before.before.before.self-in-Cmc-self-1.given.1 c.compare-in-Cmc-tolerance-3.ensures
 
-cielab_by_cie94 : tie.Need-returns-2
+cielab_by_cie94 : tie.Need-returns-in-Cie94-tolerance
 unfolding verdict_on
-cielab_by_cie94 c = rw (c.enum_told.given.1, c.before.before.before.self.given.1)
+cielab_by_cie94 c = rw (c.enum_told-1.given.1, c.before.before.before.self-1.given.1)
 
-cielab_by_cmc : tie.Need-returns-3
+cielab_by_cmc : tie.Need-returns-in-Cmc-tolerance
 unfolding verdict_on
-cielab_by_cmc c = rw (c.enum-told2.given.1, c.before.before.before.self.given.1)
+cielab_by_cmc c = rw (c.enum_told-in-Cmc-tolerance-1.given.1, c.before.before.before.self-1.given.1)
 
-cie94_by_cielab : tie.Need-returns-4
+cie94_by_cielab : tie.Need-returns-in-Cielab-tolerance-2
 unfolding verdict_on
-cie94_by_cielab c = rw (c.enum-told3.given.1, c.before.before.before.self2.given.1)
+cie94_by_cielab c = rw (c.enum_told-in-Cielab-tolerance-2-1.given.1, c.before.before.before.self-in-Cie94-self-1.given.1)
 
-cie94_by_cmc : tie.Need-returns-6
+cie94_by_cmc : tie.Need-returns-in-Cmc-tolerance-2
 unfolding verdict_on
-cie94_by_cmc c = rw (c.enum-told4.given.1, c.before.before.before.self2.given.1)
+cie94_by_cmc c = rw (c.enum_told-in-Cmc-tolerance-2-1.given.1, c.before.before.before.self-in-Cie94-self-1.given.1)
 
-cmc_by_cielab : tie.Need-returns-7
+cmc_by_cielab : tie.Need-returns-in-Cielab-tolerance-3
 unfolding verdict_on
-cmc_by_cielab c = rw (c.enum-told5.given.1, c.before.before.before.self3.given.1)
+cmc_by_cielab c = rw (c.enum_told-in-Cielab-tolerance-3-1.given.1, c.before.before.before.self-in-Cmc-self-1.given.1)
 
-cmc_by_cie94 : tie.Need-returns-8
+cmc_by_cie94 : tie.Need-returns-in-Cie94-tolerance-3
 unfolding verdict_on
-cmc_by_cie94 c = rw (c.enum-told6.given.1, c.before.before.before.self3.given.1)
+cmc_by_cie94 c = rw (c.enum_told-in-Cie94-tolerance-3-1.given.1, c.before.before.before.self-in-Cmc-self-1.given.1)
 
 pub verdict_spec : {M : Type 1} → statement M
 verdict_spec =
