@@ -15,8 +15,8 @@ in_range c κs =
     record {
       lightness = record { low = omega arith; high = omega arith };
       chroma = record { low = omega arith; high = omega arith };
-      reference = written_on_grid _ _ _ (sym at_reference_lem.place_written.ensures ∙ at-r.r-1.given.1);
-      specimen = written_on_grid _ _ _ (sym at_test.place_written-2.ensures ∙ at-t.t-1.given.1);
+      reference = written_on_grid _ _ _ (sym at_reference_lem.place_written.ensures ∙ at-r.r.given.1);
+      specimen = written_on_grid _ _ _ (sym at_test.place_written-2.ensures ∙ at-t.t.given.1);
     }
 
 pub find_spec : {M : Type 1} → statement M
