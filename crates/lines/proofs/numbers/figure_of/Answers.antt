@@ -1,19 +1,14 @@
 -- The whole ones, and the nearest ten-thousandths to the rest, are together the nearest to the number.
 -- Assumes nothing.
-use mathlib.Core.Path.{◌≡◌, sym, ap, ap₂, ◌∙◌}
-use mathlib.Core.Bool.{Bool, ◌&&◌}
-use mathlib.Core.Logic.{⊎_elim}
-use Prim.Native.Nat.{ℕ, ◌+◌, ◌*◌, ◌/◌, ◌%◌, ◌^◌}
-use native.Mathlib.Omega.{arith}
-use borrow.Author.Rules.{rules}
-use lib.Dec.{ltb}
+use Rattle.std.specs.Prelude.{◌≡◌, Bool, ◌&&◌, ℕ, ◌+◌, ◌*◌, ◌/◌, ◌%◌, ◌^◌, ltb}
+use Rattle.std.proofs.Common.{sym, ap, ap₂, ◌∙◌, arith}
 use Rattle.rounding.specs.Nearest.Laws.{nearest-add}
 use Rattle.text.specs.Decimal.{shown}
 use Rattle.text.specs.Decimal.Laws.{shown_split}
 use Rattle.text.specs.declared.decimal.Shown.{Shown}
 use Rattle.lines.specs.Lines.{figure}
-use Rattle.lines.proofs.numbers.figure_of.Statement.{statement}
-use Rattle.lines.proofs.numbers.figure_of.Tie as tie
+use Rattle.lines.proofs.numbers.figure_of.Goals as goal
+use Rattle.lines.proofs.numbers.figure_of.Goals.{then-below, else-below}
 
 abbrev whole : ℕ → ℕ
 whole m = m / 1048576 * 10000
@@ -37,14 +32,11 @@ figure_is below m e =
     (e ∙ ap (λ (s : ℕ). below && ltb 0 s) (shown_is m))
     (shown_is m)
 
-returns : tie.Need-returns
+pub returns : goal.returns
 returns c =
-    let a = c.before.args in
-    let shows : Bool → Bool = λ b. b && ltb 0 (whole a.m + rounded_rest a.m) in
-    figure_is a.below a.m
-    (⊎_elim (λ w. w.1 ∙ sym (ap shows w.0.taken)) (λ w. w.1 ∙ sym (ap shows w.0.left)) c.if-below.branch)
-
-pub figure_of_spec : {M : Type 1} → statement M
-figure_of_spec =
-    tie.close
-    (tie.spec (λ c. search rules) (λ c. search rules) (λ c. search rules) (λ c. search rules) returns)
+    let shows : Bool → Bool = λ b. b && ltb 0 (whole c.args.m + rounded_rest c.args.m) in
+    figure_is c.args.below c.args.m
+    (elim c.if-below.branch [
+      | then-below w ↦ w.result-is ∙ sym (ap shows w.if-below.true)
+      | else-below w ↦ w.result-is ∙ sym (ap shows w.if-below.false)
+    ])
