@@ -10,7 +10,9 @@
 #
 # What bin/shadepass, make, the tests and the tools build by. What is built already, from just these sources, is left
 # alone, and then neither rt nor the right to write is needed. Otherwise the tree has to be writable: where rt cannot
-# write it takes the logs of an earlier run for its own, and says "proved" of sources that it has not read.
+# write, it says "proved" and only then that nothing could be built.
+#
+# rt works in crates/NAME/out; what hosts and users take is a copy of what it made there.
 
 # Whether it can be read or not: what is built is built.
 build_say() {
@@ -27,7 +29,11 @@ build_needs_rt() {
 build_crates() {
     awk -v name="$1" '
         { sub(/#.*/, "") }
-        /:/ { line[++lines] = substr($0, 1, index($0, ":") - 1); words[line[lines]] = substr($0, index($0, ":") + 1) }
+        /:/ {
+            split(substr($0, 1, index($0, ":") - 1), head, " ")
+            line[++lines] = head[1]
+            words[head[1]] = substr($0, index($0, ":") + 1)
+        }
         END {
             needed[name] = 1
             for (at = lines; at > 0; at--)
@@ -47,13 +53,19 @@ build_file() {
     fi
 }
 
+# what rt makes of it
+build_made() {
+    echo "$top/crates/$1/out/$(basename "$(build_file "$1")")"
+}
+
 # A sum of all that NAME is made of: a file that is changed, added or taken away changes it, whatever its time says.
 build_sources() (
     cd "$top" || exit
     {
         cat crates.txt
         build_crates "$1" | sed 's|^|crates/|' |
-            xargs sh -c 'find -L "$@" -name "must-fail*" -prune -o -type f -exec sha256sum {} +' find 2>/dev/null |
+            xargs sh -c 'find -L "$@" -regex "crates/[^/]*/\(out\|must-fail[^/]*\)" -prune -o \
+                -type f -exec sha256sum {} +' find 2>/dev/null |
             LC_ALL=C sort
     } | sha256sum
 )
@@ -72,14 +84,16 @@ build_is_done() (
 
 # The places that a build writes to and this user may not. target/ may also be a link to a folder.
 build_barred() (
-    for place in "$top" "$top/.lock"; do
-        [ ! -e "$place" ] || [ -w "$place" ] || echo "$place"
+    for place in "$top" "$top/.lock" "$top/crates"/*/; do
+        [ ! -e "$place" ] || [ -w "$place" ] || echo "${place%/}"
     done
-    if [ -d "$top/target" ]; then
-        find "$top/target/" ! -writable 2>/dev/null
-    elif [ -e "$top/target" ] || [ -L "$top/target" ]; then
-        echo "$top/target"
-    fi
+    for place in "$top/target" "$top/crates"/*/out; do
+        if [ -d "$place" ]; then
+            find "$place/" ! -writable 2>/dev/null
+        elif [ -e "$place" ] || [ -L "$place" ]; then
+            echo "$place"
+        fi
+    done
 )
 
 build_can_write() (
@@ -90,7 +104,8 @@ build_can_write() (
     }
 )
 
-# On a file outside target/, which rt ci removes. rt inherits it, so that it holds for as long as a prover is at work.
+# On a file outside target/, which --clean removes. rt inherits it, and ends its provers where it is ended itself: so it
+# holds for as long as one is at work.
 build_lock() {
     exec 9>>"$top/.lock" || return
     build_held=0
@@ -121,67 +136,55 @@ build_stop() {
     kill -s "$1" $$
 }
 
-# build_states WORD CRATE...    the crates of which rt says this. It writes "failed" into CRATE.res when it starts with
-# a crate, and "proved" or "built" when it has ended.
-build_states() (
-    word=$1
-    shift
-    for crate in "$@"; do
-        state=''
-        [ ! -f "$top/target/log/$crate.res" ] || read -r state <"$top/target/log/$crate.res"
-        [ "$state" != built ] || state=proved
-        [ "$state" != "$word" ] || printf ' %s' "$crate"
-    done
-)
-
-# Says how many crates are proved whenever there are more; and what is being proved, if 15 seconds went by.
+# Says how many crates are proved whenever there are more, and what is being proved if 15 seconds went by. rt says which
+# crate it comes to, and those before that one are proved.
 build_progress() {
     build_now=$(date +%s)
-    build_count=$(build_states proved "$@" | wc -w)
-    if [ "$build_count" -gt "$build_told" ]; then
+    build_busy=$(sed -n 's/^rt: chose --jobs [0-9]* for //p' "$build_log" | tail -n 1)
+    build_count=$(echo "$build_needed" | tr ' ' '\n' | awk -v busy="$build_busy" '$0 == busy { print NR - 1 }')
+    if [ "${build_count:-0}" -gt "$build_told" ]; then
         build_told=$build_count build_spoke=$build_now
-        build_say "  $build_told of $# crates proved"
+        build_say "  $build_told of $build_of crates proved"
     elif [ $((build_now - build_spoke)) -ge 15 ]; then
-        build_spoke=$build_now build_busy=$(build_states failed "$@")
-        build_say "  still at work on${build_busy:- $build_name}: $((build_now - build_began)) s since the start"
+        build_spoke=$build_now
+        build_say "  still at work on ${build_busy:-$build_name}: $((build_now - build_began)) s since the start"
     fi
 }
 
-# build_watch COMMAND...    runs it in a session of its own, which one signal ends, and with a temporary folder of its
-# own, which can be taken away then: rt as root runs a program as nobody, who has to get there. It says how far it is.
+# build_watch NAME COMMAND...    runs it in that crate's folder, in a session of its own, which one signal ends, and with
+# a temporary folder of its own, which can be taken away then. It says how far it is.
 build_watch() {
-    build_room=$(mktemp -d) && chmod 711 "$build_room" || return
-    (cd "$top" && TMPDIR=$build_room exec setsid "$@") >>"$build_log" 2>&1 </dev/null &
+    build_room=$(mktemp -d) || return
+    (cd "$top/crates/$1" && shift && TMPDIR=$build_room exec setsid "$@") >>"$build_log" 2>&1 </dev/null &
     build_rt=$!
     for build_signal in HUP INT QUIT PIPE TERM; do
         # shellcheck disable=SC2064 # this signal
         trap "build_stop $build_signal" "$build_signal"
     done
     while kill -0 "$build_rt" 2>/dev/null; do
-        # shellcheck disable=SC2086 # a word for each crate
-        build_progress $build_needed
+        build_progress
         sleep 0.5
     done
-    # shellcheck disable=SC2086
-    build_progress $build_needed
     trap - HUP INT QUIT PIPE TERM
     rm -rf "$build_room"
     wait "$build_rt"
 }
 
-# build_prove CRATE...    It counts only if rt has left its word on each of them in this run.
-build_prove() {
-    build_watch rt check "$@" && [ "$(build_states proved "$@" | wc -w)" = $# ]
-}
-
-# What a library rests on is proved first, several crates at a time: rt staticlib proves them one by one.
+# A program is also run, on no ticket: rt has no other command that builds one.
 build_by_rt() {
-    # shellcheck disable=SC2086 # a word for each crate
     case $(build_file "$1") in
-    *.a) build_prove ${build_needed% *} && build_watch rt staticlib "$1" ;;
-    *) build_prove $build_needed ;;
+    *.a) build_watch "$1" rt lib ;;
+    *) build_watch "$1" rt run ;;
     esac
 }
+
+# Whether rt has left its word: what it makes of a crate that is proved, and its stamp on every library below.
+build_is_said() (
+    [ -f "$(build_made "$1")" ] || exit
+    for crate in $build_needed; do
+        [ "$crate" = "$1" ] || [ -s "$top/crates/$crate/out/rlib/stamp" ] || exit
+    done
+)
 
 # Under the lock. The sum is taken before, so that a source which is changed meanwhile is noticed the next time. What is
 # there of an earlier build goes, and so does rt's stamp on it: rt makes nothing anew that its stamp says is there.
@@ -191,14 +194,17 @@ build_make() {
     build_log=$top/target/built/$1.log
     build_began=$(date +%s)
     build_spoke=$build_began build_told=0
-    mkdir -p "$top/target/log" "$top/target/built"
-    rm -f "$top/target/log/"*.res "$top/target/built/$1" "$top/target/stamp/$1" "$(build_file "$1")" "$build_log"
-    build_say "proving $1, $(echo "$build_needed" | wc -w) crates, and building it: the first time some four minutes"
-    if ! build_by_rt "$1" || [ ! -f "$(build_file "$1")" ]; then
+    build_of=$(echo "$build_needed" | wc -w)
+    mkdir -p "$top/target/built" "$top/target/bin" "$top/target/staticlib"
+    rm -f "$top/target/built/$1" "$(build_file "$1")" "$(build_made "$1")" "$(build_made "$1").stamp"
+    : >"$build_log"
+    build_say "proving $1, $build_of crates, and building it: the first time some ten minutes"
+    if ! build_by_rt "$1" || ! build_is_said "$1" || ! cp "$(build_made "$1")" "$(build_file "$1")"; then
         cat "$build_log" >&2
         build_say "$1 could not be checked and built; all that rt said is above"
         return 2
     fi
+    build_say "  $build_of of $build_of crates proved"
     build_record "$build_sum" "$(build_file "$1")" >"$top/target/built/$1"
     build_say "$1 is built ($(($(date +%s) - build_began)) s)"
 }
@@ -207,6 +213,10 @@ build_make() {
 build_one() {
     if [ ! -d "$top/crates/$1" ]; then
         build_say "there is no crate $1"
+        return 2
+    fi
+    if [ ! -f "$top/crates/$1/src/main.rt" ] && ! grep -q "^$1 [^:]*staticlib" "$top/crates.txt"; then
+        build_say "$1 is neither a program nor a library for C"
         return 2
     fi
     build_is_done "$1" && return
