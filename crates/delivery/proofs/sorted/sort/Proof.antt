@@ -2,7 +2,6 @@
 use mathlib.Core.Path.{◌≡◌, sym, ◌∙◌}
 use mathlib.Core.Bool.{true}
 use borrow.Author.Rules.{rules}
-use borrow.Author.Tests.{not-true, not-false}
 use lib.ListN.{length}
 use Rattle.delivery.specs.Sorted.{is_shaped}
 use Rattle.delivery.specs.Sorted.Laws.{call_in, sorts_misshapen, sorts_no_white, sorts_factor_out, sorts_in_turn}
@@ -14,7 +13,7 @@ misshapen c =
     let then1 = c.before in
     let start = then1.before.before.before.before.before.before in
     sorts_misshapen start.args.kind start.args.white _ _ _ _ _ _
-    (sym then1.before.is_shaped.ensures ∙ not-true _ then1.if-not-is_shaped.true) c.refused.ensures
+    (sym then1.before.is_shaped.ensures ∙ then1.if-not-is_shaped.true) c.refused.ensures
 
 -- ---- the counts in order
 module _ (c : tie.After-numbered) where
@@ -23,7 +22,7 @@ module _ (c : tie.After-numbered) where
 
   shaped :
       let a = start.args in is_shaped a.xs.now a.ys.now a.zs.now (length a.de-1.now) ≡ true
-  shaped = sym c.before.before.is_shaped.ensures ∙ not-false _ c.before.if-not-is_shaped.false
+  shaped = sym c.before.before.is_shaped.ensures ∙ c.before.if-not-is_shaped.false
 
 no_white_lem : tie.Need-returns-in-Unknown
 no_white_lem c =
@@ -46,13 +45,13 @@ factors_out c =
     let f = then2.before in
     sorts_factor_out (start (at_white_lem f)).args.kind (start (at_white_lem f)).args.white _ _ _ _ _ _
     (shaped (at_white_lem f)) (at_white_lem f).numbered.ensures (at_w f).w-1.given.1
-    (sym f.are_factors.ensures ∙ not-true _ then2.if-not-are_factors.true) c.refused-then-not-are_factors.ensures
+    (sym f.are_factors.ensures ∙ then2.if-not-are_factors.true) c.refused-then-not-are_factors.ensures
 
 sort-in-requires : tie.Need-sort_in-requires
 sort-in-requires c κs =
     let else2 = c.before in
     let f = else2.before in
-    call_in _ _ _ _ (shaped (at_white_lem f)) (sym f.are_factors.ensures ∙ not-false _ else2.if-not-are_factors.false)
+    call_in _ _ _ _ (shaped (at_white_lem f)) (sym f.are_factors.ensures ∙ else2.if-not-are_factors.false)
 
 in_turn_lem : tie.Need-returns-else-not-are_factors
 in_turn_lem c =
@@ -61,7 +60,7 @@ in_turn_lem c =
     let f = else2.before in
     sorts_in_turn (start (at_white_lem f)).args.kind (start (at_white_lem f)).args.white _ _ _ _ _ _
     (shaped (at_white_lem f)) (at_white_lem f).numbered.ensures (at_w f).w-1.given.1
-    (sym f.are_factors.ensures ∙ not-false _ else2.if-not-are_factors.false) at-sort.sort_in.ensures
+    (sym f.are_factors.ensures ∙ else2.if-not-are_factors.false) at-sort.sort_in.ensures
 
 pub sort_spec : {M : Type 1} → statement M
 sort_spec =

@@ -33,7 +33,7 @@ returns c =
     let at_L = at_a.before in
     figures-are _ at_L.before.semi_axes_of-axes.ensures at_L.value.ensures at_a.value-2.ensures
     at_b.value-3.ensures
-    at-C.value_of_lem.ensures at-SL.value_of-2.ensures at-SC.value_of-3.ensures c.value_of-4.ensures
+    at-C.value_of.ensures at-SL.value_of-2.ensures at-SC.value_of-3.ensures c.value_of-4.ensures
 
 pub reference_figures_spec : {M : Type 1} → statement M
 reference_figures_spec =

@@ -45,7 +45,7 @@ returns c =
     let at_a = at_b.before in
     let at_L = at_a.before in
     let s = at_L.before in
-    figures-are _ _ _ at_L.value.ensures at_a.value-2.ensures at_b.value-3.ensures at-C.value_of_lem.ensures
+    figures-are _ _ _ at_L.value.ensures at_a.value-2.ensures at_b.value-3.ensures at-C.value_of.ensures
     (at-DL.value-4.ensures ∙ ap value_of (DL_back s)) (at-DC.value-5.ensures ∙ ap value_of (DC_back s))
     (at-DH.value-6.ensures ∙ ap value_of (DH_back s)) c.value_of-2.ensures
 
