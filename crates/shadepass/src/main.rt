@@ -1,5 +1,6 @@
 // shadepass: prints the report of the ticket on standard input, or the line of its refusal.
 #![tactic(auto)]
+
 ghost use Rattle.std.specs.Prelude.{◌≤◌, length, take};
 ghost use Rattle.std.specs.Io.KnownBytes.{Consumes};
 
