@@ -12,7 +12,7 @@ refused c =
     let at-outcome = at_number.before.before in
     prints_as
     (refusal-printed _ at-outcome.before.parse-p.ensures at-outcome.ticket_outcome.ensures
-    at_number.number-1.given.1 at-line.Line-of.ensures)
+    at_number.number.given.1 at-line.Line-of.ensures)
     at-printing.print_refusal.ensures
 
 judged : tie.Need-returns-in-Judged
@@ -23,7 +23,7 @@ judged c =
     let at-outcome = at-judgement.before.before in
     prints_as
     (report-printed _ at-outcome.before.parse-p.ensures at-outcome.ticket_outcome.ensures
-    at-judgement.j-1.given.1)
+    at-judgement.j.given.1)
     at-printing.print_report.ensures
 
 pub printed_spec : {M : Type 1} → statement M

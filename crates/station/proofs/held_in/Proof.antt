@@ -26,7 +26,7 @@ module _ (xs : List ℕ) {q : SettingsOf} (hq : q ≡ settings_in xs) where
 unnamed : tie.Need-returns-in-Refused
 unnamed c =
     let at-settings = c.before.before in
-    no_settings at-settings.before.before.args.s.now at-settings.settings_at.ensures c.enum_told-1.given.1
+    no_settings at-settings.before.before.args.s.now at-settings.settings_at.ensures c.enum_told.given.1
 
 -- ---- where the settings are tried with the colour
 module _ (c : tie.After-accept) where
@@ -41,16 +41,16 @@ module _ (c : tie.After-accept) where
 
   as_accepted : held_as c.accept.result ≡ held_by (settings_in bytes) (placed (colour_in bytes))
   as_accepted =
-      held_is bytes named.before.before.settings_at.ensures named.settings-1.given.1
+      held_is bytes named.before.before.settings_at.ensures named.settings.given.1
       at_colour.colour_at.ensures c.accept.ensures
 
 refused : tie.Need-returns-in-Refused-accept
-refused c = let tried = c.before.before in sym (ap held_as c.enum_told-in-Refused-accept-1.given.1) ∙ as_accepted tried
+refused c = let tried = c.before.before in sym (ap held_as c.enum-told2.given.1) ∙ as_accepted tried
 
 accepted : tie.Need-returns-in-Accepted
 accepted c =
     let at_standard = c.before in
-    sym (ap held_as at_standard.standard-1.given.1) ∙ as_accepted at_standard.before.before
+    sym (ap held_as at_standard.standard.given.1) ∙ as_accepted at_standard.before.before
 
 pub held_in_spec : {M : Type 1} → statement M
 held_in_spec =

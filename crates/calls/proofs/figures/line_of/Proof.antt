@@ -6,10 +6,10 @@ use Rattle.calls.proofs.figures.line_of.Statement.{statement}
 use Rattle.calls.proofs.figures.line_of.Tie as tie
 
 right : tie.Need-returns-in-Right
-right c = sym (ap line_of c.enum_told-1.given.1)
+right c = sym (ap line_of c.enum_told.given.1)
 
 wrong : tie.Need-returns-in-Wrong
-wrong c = sym (ap line_of c.before.p-1.given.1)
+wrong c = sym (ap line_of c.before.p.given.1)
 
 pub line_of_spec : {M : Type 1} → statement M
 line_of_spec = tie.close (tie.spec (λ c. search rules) (λ c. search rules) right wrong)

@@ -8,7 +8,7 @@ refused : tie.Need-returns-in-Refused
 refused c =
     let at_number = c.before in
     let at_load = at_number.before.before in
-    load-call-refused _ _ _ _ _ _ _ at_load.load_outcome.ensures at_number.n-1.given.1
+    load-call-refused _ _ _ _ _ _ _ at_load.load_outcome.ensures at_number.n.given.1
 
 -- ---- where the slice was tried
 module _ (c : tie.After-slice_known-in-Accepted-1) where
@@ -24,13 +24,13 @@ module _ (c : tie.After-slice_known-in-Accepted-1) where
 stored : tie.Need-returns-then-store
 stored c =
     let d = c.before in
-    load-call-stored _ _ _ _ _ _ _ (at_load d).load_outcome.ensures (at_standard d).s-1.given.1
+    load-call-stored _ _ _ _ _ _ _ (at_load d).load_outcome.ensures (at_standard d).s.given.1
     (at_store d).store.ensures.0 (at_store d).store.ensures.1 c.if-store.true
 
 other : tie.Need-returns-else-store
 other c =
     let d = c.before in
-    load-call-other _ _ _ _ _ _ _ (at_load d).load_outcome.ensures (at_standard d).s-1.given.1
+    load-call-other _ _ _ _ _ _ _ (at_load d).load_outcome.ensures (at_standard d).s.given.1
     (at_store d).store.ensures.0 (at_store d).store.ensures.1 c.if-store.false
 
 pub load_call_spec : {M : Type 1} → statement M

@@ -6,14 +6,14 @@ use Rattle.calls.proofs.lent.report_on.Statement.{statement}
 use Rattle.calls.proofs.lent.report_on.Tie as tie
 
 refused : tie.Need-returns-in-Refused
-refused c = reported-refused _ _ c.before.o-1.given.1
+refused c = reported-refused _ _ c.before.o.given.1
 
 judged : tie.Need-returns-in-Judged
 judged c =
     let at-writing = c.before.before in
     let known = at-writing.before.before in
     let at-judgement = known.before in
-    reported-judged _ _ at-judgement.o-in-Judged-1.given.1 at-writing.write_report.ensures.number_is
+    reported-judged _ _ at-judgement.o2.given.1 at-writing.write_report.ensures.number_is
     at-writing.write_report.ensures.room_is
 
 pub report_on_spec : {M : Type 1} → statement M

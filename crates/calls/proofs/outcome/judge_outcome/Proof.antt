@@ -16,15 +16,15 @@ module _ (c : tie.After-place_reading) where
   at_read = held.before.before
 
 judgeable : tie.Need-judge-requires
-judgeable c κs = held-judgeable _ _ (sym (at_read c).read.ensures ∙ (held c).s-1.given.1) c.place_reading.ensures
+judgeable c κs = held-judgeable _ _ (sym (at_read c).read.ensures ∙ (held c).s.given.1) c.place_reading.ensures
 
 empty : tie.Need-returns-in-Empty
-empty c = let shr_slice_at = c.before.before in judge-empty _ _ shr_slice_at.read.ensures c.enum_told-1.given.1
+empty c = let shr_slice_at = c.before.before in judge-empty _ _ shr_slice_at.read.ensures c.enum_told.given.1
 
 judged : tie.Need-returns-in-Holds
 judged c =
     let at_reading = c.before in
-    judge-held _ _ (at_read at_reading).read.ensures (held at_reading).s-1.given.1
+    judge-held _ _ (at_read at_reading).read.ensures (held at_reading).s.given.1
     at_reading.place_reading.ensures c.judge.ensures
 
 pub judge_outcome_spec : {M : Type 1} → statement M

@@ -8,14 +8,14 @@ unnamed : tie.Need-returns-in-Refused
 unnamed c =
     let at_number = c.before in
     let at-settings = at_number.before.before in
-    load-unnamed _ _ at-settings.settings_of.ensures at_number.n-1.given.1
+    load-unnamed _ _ at-settings.settings_of.ensures at_number.n.given.1
 
 tried : tie.Need-returns-in-Are
 tried c =
     let at_reading = c.before in
     let named = at_reading.before.before in
     let at-settings = named.before.before in
-    load-tried _ _ at-settings.settings_of.ensures named.s-1.given.1 at_reading.place_reading.ensures
+    load-tried _ _ at-settings.settings_of.ensures named.s.given.1 at_reading.place_reading.ensures
     c.accept.ensures
 
 pub load_outcome_spec : {M : Type 1} → statement M

@@ -9,7 +9,7 @@ refused : tie.Need-returns-in-Refused
 refused c =
     let at_number = c.before in
     let at_load = at_number.before.before in
-    ticket_unaccepted _ at_load.before.place_written.ensures at_load.accept.ensures at_number.n-1.given.1
+    ticket_unaccepted _ at_load.before.place_written.ensures at_load.accept.ensures at_number.n.given.1
 
 -- ---- where the test specimen is placed
 module _ (c : tie.After-place_written-in-Accepted) where
@@ -22,13 +22,13 @@ module _ (c : tie.After-place_written-in-Accepted) where
 judgeable : tie.Need-judge-requires
 judgeable c κs =
     ticket-judgeable _ (at_load c).before.place_written.ensures (at_load c).accept.ensures
-    (at_standard c).s-1.given.1 c.place_written-in-Accepted.ensures
+    (at_standard c).s.given.1 c.place_written-in-Accepted.ensures
 
 judged : tie.Need-returns-in-Accepted
 judged c =
     let at_test = c.before in
     ticket-judged _ (at_load at_test).before.place_written.ensures (at_load at_test).accept.ensures
-    (at_standard at_test).s-1.given.1 at_test.place_written-in-Accepted.ensures c.judge.ensures
+    (at_standard at_test).s.given.1 at_test.place_written-in-Accepted.ensures c.judge.ensures
 
 pub right_outcome_spec : {M : Type 1} → statement M
 right_outcome_spec =

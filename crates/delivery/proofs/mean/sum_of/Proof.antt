@@ -54,10 +54,10 @@ module _ (c : tie.In-At invariant-loop decreases-loop) where
   at_place = c.before.before.before
 
   abbrev colour : GridColour
-  colour = c.before.p-1.given.0.0
+  colour = c.before.p.given.0.0
 
   on_grid_lem : OnGrid colour
-  on_grid_lem = place_on_grid (white at_place) _ colour (sym at_place.place_reading-p.ensures ∙ c.before.p-1.given.1)
+  on_grid_lem = place_on_grid (white at_place) _ colour (sym at_place.place_reading-p.ensures ∙ c.before.p.given.1)
 
   few : length (head at_place).loop-i.inv.so_far ≤ 256
   few = omega (arith, (head at_place).loop-i.inv.count, (turn at_place).loop-i-test.taken, (start at_place).requires.few)
@@ -72,7 +72,7 @@ loop-again c =
     let p = at_place told in
     one_more_cone (turn_in (white p)) (start p).args.kind _ _ _ (start p).requires.even (head p).loop-i.inv
     (turn p).loop-i-test.taken (at_reading p).reading_at.ensures (colour told)
-    (ap placed_turn (sym p.place_reading-p.ensures ∙ told.before.p-1.given.1))
+    (ap placed_turn (sym p.place_reading-p.ensures ∙ told.before.p.given.1))
     (λ us n h. one_more_sum (on_grid_lem told) c.with_colour-sums.ensures us h)
 
 refused : tie.Need-returns-in-Refused invariant-loop decreases-loop
@@ -81,7 +81,7 @@ refused c =
     sym (ap summed
     (cone-refused (turn_in (white p)) (start p).args.kind _ _ _ (start p).requires.even (head p).loop-i.invariant
     (turn p).loop-i-test.true (at_reading p).reading_at.ensures
-    (ap placed_turn (sym p.place_reading-p.ensures ∙ c.before.p-in-Refused-1.given.1))))
+    (ap placed_turn (sym p.place_reading-p.ensures ∙ c.before.p2.given.1))))
 
 accepted : tie.Need-returns invariant-loop decreases-loop
 accepted c =

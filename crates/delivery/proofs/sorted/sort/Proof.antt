@@ -21,7 +21,7 @@ module _ (c : tie.After-numbered) where
   start = c.before.before.before.before.before.before.before
 
   shaped :
-      let a = start.args in is_shaped a.xs.now a.ys.now a.zs.now (length a.de-1.now) ≡ true
+      let a = start.args in is_shaped a.xs.now a.ys.now a.zs.now (length a.de.now) ≡ true
   shaped = sym c.before.before.is_shaped.ensures ∙ c.before.if-not-is_shaped.false
 
 no_white_lem : tie.Need-returns-in-Unknown
@@ -29,7 +29,7 @@ no_white_lem c =
     let told = c.before in
     let at_white_lem = told.before.before in
     sorts_no_white (start at_white_lem).args.kind (start at_white_lem).args.white _ _ _ _ _ _ (shaped at_white_lem)
-    at_white_lem.numbered.ensures told.enum_told-1.given.1 c.refused-in-Unknown.ensures
+    at_white_lem.numbered.ensures told.enum_told.given.1 c.refused-in-Unknown.ensures
 
 -- ---- and a white
 module _ (c : tie.After-are_factors) where
@@ -44,7 +44,7 @@ factors_out c =
     let then2 = c.before in
     let f = then2.before in
     sorts_factor_out (start (at_white_lem f)).args.kind (start (at_white_lem f)).args.white _ _ _ _ _ _
-    (shaped (at_white_lem f)) (at_white_lem f).numbered.ensures (at_w f).w-1.given.1
+    (shaped (at_white_lem f)) (at_white_lem f).numbered.ensures (at_w f).w.given.1
     (sym f.are_factors.ensures ∙ then2.if-not-are_factors.true) c.refused-then-not-are_factors.ensures
 
 sort-in-requires : tie.Need-sort_in-requires
@@ -59,7 +59,7 @@ in_turn_lem c =
     let else2 = at-sort.before.before in
     let f = else2.before in
     sorts_in_turn (start (at_white_lem f)).args.kind (start (at_white_lem f)).args.white _ _ _ _ _ _
-    (shaped (at_white_lem f)) (at_white_lem f).numbered.ensures (at_w f).w-1.given.1
+    (shaped (at_white_lem f)) (at_white_lem f).numbered.ensures (at_w f).w.given.1
     (sym f.are_factors.ensures ∙ else2.if-not-are_factors.false) at-sort.sort_in.ensures
 
 pub sort_spec : {M : Type 1} → statement M

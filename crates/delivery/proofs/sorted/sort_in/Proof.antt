@@ -19,7 +19,7 @@ refused c =
     let at_number = c.before.before in
     let at_sums = at_number.before.before in
     let a = (start at_sums).args in
-    gives_refused a.kind a.white (start at_sums).requires at_sums.sum_of.ensures at_number.number-1.given.1
+    gives_refused a.kind a.white (start at_sums).requires at_sums.sum_of.ensures at_number.number.given.1
     c.refused.ensures
 
 -- ---- every cone accepted
@@ -30,7 +30,7 @@ module _ (c : tie.In-Of) where
 mean-colour-requires : tie.Need-mean_colour-mean-requires
 mean-colour-requires c κs =
     let a = (start (at_sums c)).args in
-    can_share a.kind a.white (start (at_sums c)).requires (at_sums c).sum_of.ensures c.before.sums-1.given.1
+    can_share a.kind a.white (start (at_sums c)).requires (at_sums c).sum_of.ensures c.before.sums.given.1
 
 write-differences-requires : tie.Need-write_differences-far-requires
 write-differences-requires c κs =
@@ -38,7 +38,7 @@ write-differences-requires c κs =
     let told = at-mean.before in
     let a = (start (at_sums told)).args in
     has_room a.kind a.white (start (at_sums told)).requires (at_sums told).sum_of.ensures
-    told.before.sums-1.given.1 at-mean.mean_colour-mean.ensures
+    told.before.sums.given.1 at-mean.mean_colour-mean.ensures
 
 accepted : tie.Need-returns-in-Of
 accepted c =
@@ -47,7 +47,7 @@ accepted c =
     let told = at-mean.before in
     let a = (start (at_sums told)).args in
     gives_whole a.kind a.white (start (at_sums told)).requires (at_sums told).sum_of.ensures
-    told.before.sums-1.given.1 at-mean.mean_colour-mean.ensures at-write.write_differences-far.ensures
+    told.before.sums.given.1 at-mean.mean_colour-mean.ensures at-write.write_differences-far.ensures
     c.before.before.value.ensures c.before.value-in-Of.ensures c.value-in-Of-2.ensures
 
 few : tie.Need-overflow-cast-t23

@@ -7,7 +7,7 @@ use Rattle.printing.proofs.refusal.put_refusal.Statement.{statement}
 use Rattle.printing.proofs.refusal.put_refusal.Tie as tie
 
 -- the whole row has room
-row : (c : tie.Start) → RoomForAll c.args.dst-1.now 0 (refusal_pieces c.args.number c.args.line)
+row : (c : tie.Start) → RoomForAll c.args.dst.now 0 (refusal_pieces c.args.number c.args.line)
 unfolding refusal_line
 row c = room_for_all (refusal_pieces c.args.number c.args.line) c.requires
 

@@ -55,7 +55,7 @@ module _ (shown : tie.After-signed_figure-DH) where
       (DC-shown.signed_figure-DC.ensures ∙ ap signed_figure DC_back)
       (shown.signed_figure-DH.ensures ∙ ap signed_figure DH_back)
 
-  row : RoomForAll start.args.dst-1.now start.args.at lines
+  row : RoomForAll start.args.dst.now start.args.at lines
   row = room_for_all lines (room_as (ap joined as_shown) start.requires)
 
 DE-requires : tie.Need-put_number-after_DE-requires

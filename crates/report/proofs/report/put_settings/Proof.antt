@@ -22,7 +22,7 @@ module _ (shown : tie.After-thousandths_of-c) where
   as_shown : setting_lines start.args.s ≡ lines
   as_shown = settings-shown start.args.s shown.before.thousandths_of-l.ensures shown.thousandths_of-c.ensures
 
-  row : RoomForAll start.args.dst-1.now start.args.at lines
+  row : RoomForAll start.args.dst.now start.args.at lines
   row = room_for_all lines (room_as (ap joined as_shown) start.requires)
 
 formula-requires : tie.Need-put_formula-after_formula-requires

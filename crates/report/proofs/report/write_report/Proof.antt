@@ -35,7 +35,7 @@ written c =
     let fits = at-lines.before.before in
     let at_length = fits.before in
     let a = at_length.before.before.before.args in
-    let room = a.room-1.now in
+    let room = a.room.now in
     record {
       number_is = sym (write_number_zero room a.column a.j (omega arith));
       room_is =

@@ -16,8 +16,8 @@ use Rattle.standard.proofs.figures.reference_figures.Tie as tie
 -- the figures from their parts
 figures-are :
     (s : Standard) {S : SemiAxes} {L a b C SL SC SH : Float} →
-    S ≡ semi_axes 20 s.settings-1.formula (at_places 20 s.colour-1) →
-    L ≡ value_of s.colour-1.L.0 → a ≡ value_of s.colour-1.a.0 → b ≡ value_of s.colour-1.b.0 →
+    S ≡ semi_axes 20 s.settings.formula (at_places 20 s.colour) →
+    L ≡ value_of s.colour.L.0 → a ≡ value_of s.colour.a.0 → b ≡ value_of s.colour.b.0 →
     C ≡ value_of (pos S.C) → SL ≡ value_of (pos S.SL) → SC ≡ value_of (pos S.SC) → SH ≡ value_of (pos S.SH) →
     ◌≡◌ {A = ReferenceFigures} (record { L = L; a = a; b = b; C = C; SL = SL; SC = SC; SH = SH }) (reference_figures s)
 unfolding reference_figures
