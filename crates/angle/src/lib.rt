@@ -1,5 +1,6 @@
 // SCOPE 7.4: the hue angle of a colour, in whole degrees.
 #![tactic(auto)]
+
 mod cosine;
 mod sine;
 

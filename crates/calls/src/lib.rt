@@ -1,5 +1,6 @@
 // The calls: load, judge and ticket on slices that the host lends, and the same handed back as floats.
 #![tactic(auto)]
+
 mod figures;
 mod lent;
 mod outcome;

@@ -1,5 +1,6 @@
 // Whites, readings of a colour, X, Y, Z to the grid, and the refusals' numbers.
 #![tactic(auto)]
+
 pub mod conversion;
 pub mod placed;
 pub mod refusal;

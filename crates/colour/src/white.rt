@@ -29,6 +29,7 @@ pub enum Numbered {
 
 impl White {
     // The white's own tristimulus values.
+    #[tactic(auto, unfolding(crate::specs::White::white_of))]
     pub fn tristimulus(self) -> TristimulusValues
         ensures { result ≡ white_of self }
     {
@@ -69,6 +70,7 @@ impl White {
     }
 
     // The white of a number.
+    #[tactic(auto, unfolding(crate::specs::White::white_numbered))]
     pub fn numbered(n: u32) -> Numbered
         ensures { result ≡ white_numbered n }
     {

@@ -1,5 +1,6 @@
 // Three slices of one kind of reading: the cones of a delivery, each in turn.
 #![tactic(auto)]
+
 ghost use Rattle.std.specs.Prelude.{◌≡◌, ◌<◌, length, get_or};
 ghost use Rattle.cones.specs.Zip.{Even, is_even};
 ghost use Rattle.cones.specs.Cones.{reading_of, readings_of, no_reading, colours_in, no_colour};

@@ -22,6 +22,7 @@ pub fn formula_len(f: Formula) -> usize
     }
 }
 
+#[tactic(auto, unfolding(text::specs::Put::line))]
 pub fn put_formula(dst: &mut [u8], at: usize, f: Formula) -> usize
     requires { Room dst.old at (line (ascii "formula=") (formula_name f)) }
     ensures { Puts dst.old at (line (ascii "formula=") (formula_name f)) result dst.new }
@@ -44,6 +45,7 @@ pub fn white_len(w: White) -> usize
     }
 }
 
+#[tactic(auto, unfolding(text::specs::Put::line))]
 pub fn put_white(dst: &mut [u8], at: usize, w: White) -> usize
     requires { Room dst.old at (line (ascii "white=") (white_name w)) }
     ensures { Puts dst.old at (line (ascii "white=") (white_name w)) result dst.new }
@@ -66,6 +68,7 @@ pub fn lightness_len(x: Lightness) -> usize
     }
 }
 
+#[tactic(auto, unfolding(text::specs::Put::line))]
 pub fn put_lightness(dst: &mut [u8], at: usize, x: Lightness) -> usize
     requires { Room dst.old at (line (ascii "lightness=") (lightness_word x)) }
     ensures { Puts dst.old at (line (ascii "lightness=") (lightness_word x)) result dst.new }
@@ -90,6 +93,7 @@ pub fn chroma_len(withheld: bool, x: Chroma) -> usize
     }
 }
 
+#[tactic(auto, unfolding(text::specs::Put::line))]
 pub fn put_chroma(dst: &mut [u8], at: usize, withheld: bool, x: Chroma) -> usize
     requires { Room dst.old at (line (ascii "chroma=") (unless_withheld withheld (chroma_word x))) }
     ensures { Puts dst.old at (line (ascii "chroma=") (unless_withheld withheld (chroma_word x))) result
@@ -151,6 +155,7 @@ pub fn hue_len(withheld: bool, x: Hue) -> usize
     }
 }
 
+#[tactic(auto, unfolding(text::specs::Put::line))]
 pub fn put_hue(dst: &mut [u8], at: usize, withheld: bool, x: Hue) -> usize
     requires { Room dst.old at (line (ascii "hue=") (unless_withheld withheld (hue_word x))) }
     ensures { Puts dst.old at (line (ascii "hue=") (unless_withheld withheld (hue_word x))) result dst.new }
@@ -174,6 +179,7 @@ pub fn verdict_len(x: Verdict) -> usize
     }
 }
 
+#[tactic(auto, unfolding(text::specs::Put::line))]
 pub fn put_verdict(dst: &mut [u8], at: usize, x: Verdict) -> usize
     requires { Room dst.old at (line (ascii "verdict=") (verdict_word x)) }
     ensures { Puts dst.old at (line (ascii "verdict=") (verdict_word x)) result dst.new }

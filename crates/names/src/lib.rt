@@ -1,5 +1,6 @@
 // SCOPE 7: how the test specimen differs from the reference, in words, and where a report withholds them.
 #![tactic(auto)]
+
 ghost use Rattle.std.specs.Prelude.{◌≡◌, true, false};
 ghost use Rattle.names.specs.Names.{lightness_name, chroma_name, first_met, next_met, hue_named, achromatic};
 ghost use Rattle.names.specs.Names.{withheld_by};

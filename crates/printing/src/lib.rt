@@ -1,5 +1,6 @@
 // What the program prints for a text.
 #![tactic(auto)]
+
 mod refusal;
 
 ghost use Rattle.report.specs.Report.{report_text};

@@ -1,5 +1,6 @@
 // Lines 1 and 3 to 7 of the step sheet at 20 binary places: a colour's chroma, and the semi-axes of a reference.
 #![tactic(auto)]
+
 mod chroma;
 mod hue;
 mod semi_axes;

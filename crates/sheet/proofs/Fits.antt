@@ -29,7 +29,7 @@ module _ {p q r s : ℤ} (h : Four (2 ^ 28) p q r s) where
 -- ---- a colour of the grid: its numbers come back from the machine's as they were
 
 back : {z : ℤ} → ∣ z ∣ ≤ 2 ^ 28 → to_z w64 (of_z w64 z) ≡ z
-back h = to_z-of_z (fits_of_abs _ (omega arith))
+back {z = z} h = to_z-of_z {w = w64} (fits_of_abs z (omega arith))
 
 module _ {c : GridColour} (h : OnGrid c) where
   pub L_back : to_z w64 (of_z w64 c.L.0) ≡ c.L.0

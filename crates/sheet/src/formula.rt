@@ -41,6 +41,7 @@ impl Formula {
     }
 
     // The formula of a number.
+    #[tactic(auto, unfolding(crate::specs::Settings::formula_numbered))]
     pub fn numbered(n: u32) -> NumberedFormula
         ensures { result ≡ formula_numbered n }
     {

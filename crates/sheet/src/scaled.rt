@@ -53,6 +53,7 @@ impl Scaled {
     }
 
     // The verdict on a DE by a tolerance: one of another formula's scale accepts nothing.
+    #[tactic(auto, unfolding(crate::specs::Sheet::verdict_on))]
     pub fn verdict(self, tolerance: Scaled) -> Verdict
         ensures { result ≡ verdict_on 20 tolerance self }
     {

@@ -1,5 +1,6 @@
 // The station: what it holds between calls, and the slice that it lies in.
 #![tactic(auto)]
+
 mod bytes;
 mod record;
 

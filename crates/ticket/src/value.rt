@@ -43,6 +43,7 @@ pub enum ReadingRead {
     Is(Written),
 }
 
+#[tactic(auto, unfolding(crate::specs::Ticket::named))]
 pub(crate) fn formula_named(s: &[u8]) -> FormulaRead
     ensures { formula_in result ≡ formula_named s.now }
 {
@@ -58,6 +59,7 @@ pub(crate) fn formula_named(s: &[u8]) -> FormulaRead
     FormulaRead::Nothing
 }
 
+#[tactic(auto, unfolding(crate::specs::Ticket::named))]
 pub(crate) fn white_named(s: &[u8]) -> WhiteRead
     ensures { white_in result ≡ white_named s.now }
 {
@@ -76,6 +78,7 @@ pub(crate) fn white_named(s: &[u8]) -> WhiteRead
     WhiteRead::Nothing
 }
 
+#[tactic(auto, unfolding(crate::specs::Ticket::named))]
 pub(crate) fn space_named(s: &[u8]) -> SpaceRead
     ensures { space_in result ≡ space_named s.now }
 {
@@ -88,6 +91,7 @@ pub(crate) fn space_named(s: &[u8]) -> SpaceRead
     SpaceRead::Nothing
 }
 
+#[tactic(auto, unfolding(crate::specs::Ticket::in_space))]
 fn in_space(space: Space, x: Decimal, y: Decimal, z: Decimal) -> Written
     ensures { result ≡ in_space space x y z }
 {

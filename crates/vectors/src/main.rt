@@ -1,6 +1,7 @@
 // Outside vectors, run and compared: Table 2 of BS 6923, the example of document 002, and the five statements of its
 // Figure 1.
 #![tactic(auto)]
+
 mod say;
 mod tables;
 
@@ -14,6 +15,7 @@ use reading::decimal::Decimal;
 use rounding::signed::magnitude;
 use sheet::differences::Differences;
 use sheet::formula::Formula;
+use std::io;
 use tables::{COMPONENTS, FIGURE_1, Paper, TABLE_2};
 
 // What the sheet and the names say of two colours.
@@ -79,70 +81,71 @@ fn paper(j: usize) -> Paper
     }
 }
 
-fn say_figures(found: Found, paper: Paper) {
+fn say_figures(rt: &impl Print, found: Found, paper: Paper) -> io::Result<()> {
     match found {
-        Found::Nothing => say::text(b"  REFUSED\n"),
-        Found::Pair(d, _, _) => say::figures(d, paper),
+        Found::Nothing => say::text(rt, "  REFUSED\n"),
+        Found::Pair(d, _, _) => say::figures(rt, d, paper),
     }
 }
 
-fn say_words(found: Found) {
+fn say_words(rt: &impl Print, found: Found) -> io::Result<()> {
     match found {
-        Found::Nothing => say::text(b"  REFUSED\n"),
-        Found::Pair(_, chroma, hue) => say::words(chroma, hue),
+        Found::Nothing => say::text(rt, "  REFUSED\n"),
+        Found::Pair(_, chroma, hue) => say::words(rt, chroma, hue),
     }
 }
 
-fn say_total(found: Found, paper: i64) {
+fn say_total(rt: &impl Print, found: Found, paper: i64) -> io::Result<()> {
     match found {
-        Found::Nothing => say::text(b"  REFUSED\n"),
-        Found::Pair(d, _, _) => say::total(d, paper),
+        Found::Nothing => say::text(rt, "  REFUSED\n"),
+        Found::Pair(d, _, _) => say::total(rt, d, paper),
     }
 }
 
 // Pair i of Table 2, counted from 0.
-fn table_2(i: usize) {
+fn table_2(rt: &impl Print, i: usize) -> io::Result<()> {
     if 10 <= i {
-        return;
+        return Ok(());
     }
-    say::text(b"Table 2, pair ");
-    say::number(i as u64 + 1);
+    say::text(rt, "Table 2, pair ")?;
+    say::number(rt, i as u64 + 1)?;
     let found = find(Formula::CMC, xyz(6 * i), xyz(6 * i + 3));
-    say_figures(found, paper(4 * i));
+    say_figures(rt, found, paper(4 * i))
 }
 
 // Statement i of Figure 1, counted from 0, at L* = 50.
-fn figure_1(i: usize) {
+fn figure_1(rt: &impl Print, i: usize) -> io::Result<()> {
     if 5 <= i {
-        return;
+        return Ok(());
     }
     let k = 4 * i;
     let reference = lab(5000, FIGURE_1[k], FIGURE_1[k + 1]);
     let test = lab(5000, FIGURE_1[k + 2], FIGURE_1[k + 3]);
-    say::text(b"Figure 1, statement ");
-    say::number(i as u64 + 1);
-    say_words(find(Formula::CMC, reference, test));
+    say::text(rt, "Figure 1, statement ")?;
+    say::number(rt, i as u64 + 1)?;
+    say_words(rt, find(Formula::CMC, reference, test))
 }
 
 // Document 002: CIELAB 1.81, minus in hue, greener(yellower).
-fn document_002() {
+fn document_002(rt: &impl Print) -> io::Result<()> {
     let found = find(
         Formula::CIELAB,
         lab(5368, -920, -3656),
         lab(5490, -1002, -3550),
     );
-    say::text(b"Document 002");
-    say_total(found, 18100);
-    say::text(b"Document 002");
-    say_words(found);
+    say::text(rt, "Document 002")?;
+    say_total(rt, found, 18100)?;
+    say::text(rt, "Document 002")?;
+    say_words(rt, found)
 }
 
-fn main() {
+fn main(rt: HostRuntime) -> io::Result<()> {
     for i in 0..10 {
-        table_2(i);
+        table_2(&rt, i)?;
     }
-    document_002();
+    document_002(&rt)?;
     for i in 0..5 {
-        figure_1(i);
+        figure_1(&rt, i)?;
     }
+    Ok(())
 }

@@ -5,32 +5,33 @@ use names::{Axis, Chroma, Hue};
 use reading::grid::Grid;
 use rounding::signed::magnitude;
 use sheet::differences::Differences;
+use std::io;
 
-pub(crate) fn text(s: &[u8]) {
-    io::write_all(1, s);
+pub(crate) fn text(rt: &impl Print, s: &str) -> io::Result<()> {
+    rt.print(s)
 }
 
-pub(crate) fn number(n: u64) {
-    io::print_decimal(1, n);
+pub(crate) fn number(rt: &impl Print, n: u64) -> io::Result<()> {
+    rt.print(n)
 }
 
-fn digit(d: u64) {
-    io::write_all(1, &[48 + (d % 10) as u8]);
+fn digit(rt: &impl Print, d: u64) -> io::Result<()> {
+    number(rt, d % 10)
 }
 
 // A figure of grid units, as a report has it.
-fn figure(key: &[u8], z: i64) {
+fn figure(rt: &impl Print, key: &str, z: i64) -> io::Result<()> {
     let d = signed_figure(z);
-    text(key);
+    text(rt, key)?;
     if d.minus {
-        text(b"-");
+        text(rt, "-")?;
     }
-    number(d.whole);
-    text(b".");
-    digit(d.units / 1000);
-    digit(d.units / 100);
-    digit(d.units / 10);
-    digit(d.units);
+    number(rt, d.whole)?;
+    text(rt, ".")?;
+    digit(rt, d.units / 1000)?;
+    digit(rt, d.units / 100)?;
+    digit(rt, d.units / 10)?;
+    digit(rt, d.units)
 }
 
 // Whether a figure of grid units has the paper's sign and is within 0.01 of the paper's ten-thousandths.
@@ -47,71 +48,70 @@ fn agrees(z: i64, paper: i64) -> bool {
     }
 }
 
-fn verdict(agreed: bool) {
+fn verdict(rt: &impl Print, agreed: bool) -> io::Result<()> {
     if agreed {
-        text(b"  within 0.01\n");
+        text(rt, "  within 0.01\n")
     } else {
-        text(b"  DIFFERS\n");
+        text(rt, "  DIFFERS\n")
     }
 }
 
 // Four figures, and whether each is the paper's to 0.01 and with its sign.
-pub(crate) fn figures(d: Differences, paper: Paper) {
+pub(crate) fn figures(rt: &impl Print, d: Differences, paper: Paper) -> io::Result<()> {
     let de = (d.DE % 4294967296) as i64;
-    figure(b"  DL ", d.DL);
-    figure(b"  DC ", d.DC);
-    figure(b"  DH ", d.DH);
-    figure(b"  DE ", de);
+    figure(rt, "  DL ", d.DL)?;
+    figure(rt, "  DC ", d.DC)?;
+    figure(rt, "  DH ", d.DH)?;
+    figure(rt, "  DE ", de)?;
     if agrees(d.DL, paper.DL) {
         if agrees(d.DC, paper.DC) {
             if agrees(d.DH, paper.DH) {
-                verdict(agrees(de, paper.DE));
-                return;
+                return verdict(rt, agrees(de, paper.DE));
             }
         }
     }
-    verdict(false);
+    verdict(rt, false)
 }
 
 // DE alone, and whether it is the paper's to 0.01.
-pub(crate) fn total(d: Differences, paper: i64) {
+pub(crate) fn total(rt: &impl Print, d: Differences, paper: i64) -> io::Result<()> {
     let de = (d.DE % 4294967296) as i64;
-    figure(b"  DH ", d.DH);
-    figure(b"  DE ", de);
-    verdict(agrees(de, paper));
+    figure(rt, "  DH ", d.DH)?;
+    figure(rt, "  DE ", de)?;
+    verdict(rt, agrees(de, paper))
 }
 
-fn chroma(name: Chroma) {
+fn chroma(rt: &impl Print, name: Chroma) -> io::Result<()> {
     match name {
-        Chroma::More => text(b"  more chroma, "),
-        Chroma::Less => text(b"  less chroma, "),
-        Chroma::Equal => text(b"  equal in chroma, "),
+        Chroma::More => text(rt, "  more chroma, "),
+        Chroma::Less => text(rt, "  less chroma, "),
+        Chroma::Equal => text(rt, "  equal in chroma, "),
     }
 }
 
-fn axis(name: Axis) {
+fn axis(rt: &impl Print, name: Axis) -> io::Result<()> {
     match name {
-        Axis::Redder => text(b"redder"),
-        Axis::Yellower => text(b"yellower"),
-        Axis::Greener => text(b"greener"),
-        Axis::Bluer => text(b"bluer"),
+        Axis::Redder => text(rt, "redder"),
+        Axis::Yellower => text(rt, "yellower"),
+        Axis::Greener => text(rt, "greener"),
+        Axis::Bluer => text(rt, "bluer"),
     }
 }
 
-fn hue(name: Hue) {
+fn hue(rt: &impl Print, name: Hue) -> io::Result<()> {
     match name {
-        Hue::Equal => text(b"equal in hue\n"),
+        Hue::Equal => text(rt, "equal in hue\n"),
         Hue::Towards(first, next) => {
-            axis(first);
-            text(b"(");
-            axis(next);
-            text(b")\n");
+            axis(rt, first)?;
+            text(rt, "(")?;
+            axis(rt, next)?;
+            text(rt, ")\n")
         }
     }
 }
 
 // The names of the shift in chroma and hue.
-pub(crate) fn words(c: Chroma, h: Hue) {
-    chroma(c);
-    hue(h);
+pub(crate) fn words(rt: &impl Print, c: Chroma, h: Hue) -> io::Result<()> {
+    chroma(rt, c)?;
+    hue(rt, h)
 }

@@ -49,7 +49,7 @@ module _ (c : tie.After-quadrant_of-q) where
   m = c.before.before
 
   q_is : c.quadrant_of-q.result ≡ quadrant (a m) (b m)
-  q_is = simp (to_z-of_z, m.before.before.fits.a, m.before.before.fits.b) at c.quadrant_of-q.ensures
+  q_is = simp (to_z-of_z, m.before.before.ranges.a, m.before.before.ranges.b) at c.quadrant_of-q.ensures
 
   q_lt : c.quadrant_of-q.result < 4
   q_lt = rw q_is (quadrant-lt (a m) (b m))

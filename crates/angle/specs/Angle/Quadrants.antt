@@ -3,7 +3,7 @@
 -- Assumes nothing.
 use Rattle.std.specs.Prelude.{◌≡◌, refl, Bool, true, false, not, cond, ◌&&◌, ℕ, zero, suc, ◌+◌, ◌*◌, ◌%◌, ◌<◌, leb, ℤ, pos, negsuc, neg_ℤ}
 use Rattle.std.proofs.Common.{sym, ap, ap₂, ◌∙◌, zero-le, zero-lt-suc, add_comm, mul-pos, arith, lt-ltb, le-ltb, le-leb}
-use Rattle.std.proofs.Math.Bool.{and_false}
+use Rattle.std.proofs.Math.Bool.{and-false}
 use Rattle.std.proofs.lemmas.Bool.{lt-leb}
 use Rattle.std.proofs.Math.IntN.{neg_ℤ-neg_ℤ}
 use Rattle.rounding.specs.Signed.{∣◌∣, square, minus}
@@ -121,7 +121,7 @@ module _ {x y : ℕ} {a b : ℤ} where
   unfolding quadrant
   fourth-quadrant s =
       rw (s.is_a, s.is_b)
-      (rw (neg_ℤ-neg_ℤ (pos y), minus-neg-pos x s.some, plus-neg-pos x, minus_pos y) (rw (and_false (plus (pos y)))))
+      (rw (neg_ℤ-neg_ℤ (pos y), minus-neg-pos x s.some, plus-neg-pos x, minus_pos y) (rw (and-false (plus (pos y)))))
 
 pub quadrant-stands : (q : ℕ) {x y : ℕ} {a b : ℤ} → q < 4 → Stands q x y a b → quadrant a b ≡ q
 quadrant-stands zero h s = first_quadrant s
@@ -138,7 +138,7 @@ module _ (a b : ℤ) where
 
   pub quadrant_3 : plus a ≡ true → minus b ≡ true → 3 ≡ quadrant a b
   unfolding quadrant
-  quadrant_3 h g = rw (h, g, not_minus a h) (rw (and_false (plus b)))
+  quadrant_3 h g = rw (h, g, not_minus a h) (rw (and-false (plus b)))
 
   module _ (back : plus a ≡ false) where
     pub quadrant_1 : plus b ≡ true → 1 ≡ quadrant a b

@@ -55,6 +55,7 @@ module _ (w : White) where
     where
       placed : (p : Placed) → place w r ≡ p → IsTaken (placed_turn p) → (c : GridColour) × (place w r ≡ At c)
       placed (At c) e t = (c, e)
+      placed (Refused m) e t = elim t [ ]
 
       back : (c : GridColour) × (place w r ≡ At c) → IsTaken (turn_in w r)
       back (c, e) = subst (λ (p : Placed). IsTaken (placed_turn p)) (sym e) (is_taken c)

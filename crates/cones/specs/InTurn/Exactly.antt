@@ -58,6 +58,7 @@ module _ {P W : Type 0} (turn : P → Turn W) where
             either t (λ (v : W). after (v ∷ []) (in_turn_from turn (suc k) ps)) (λ (m : ℕ). refused m k)
             ≡ refused n (k + suc i)
         go (taken v) (is_taken w) rest = ap (after (v ∷ [])) rest ∙ ap (refused n) (suc-add k i ∙ sym (add-suc k i))
+        go (denied m) t rest = elim t [ ]
 
     whole_if : {ps : List P} {vs : List W} (k : ℕ) → AllTaken ps vs → in_turn_from turn k ps ≡ whole vs
     unfolding in_turn_from

@@ -21,10 +21,10 @@ use Rattle.delivery.specs.Sums.{AtMost, with_colour, sums_of, mean_of_sums}
 -- in 64 bits
 module _ (x y : ℤ) (hx : ∣ x ∣ ≤ 2 ^ 36) (hy : ∣ y ∣ ≤ 256 * 2 ^ 20) where
   sum_back : to_z w64 (of_z w64 x) ≡ x
-  sum_back = to_z-of_z (fits_of_abs x (omega arith))
+  sum_back = to_z-of_z {w = w64} (fits_of_abs x (omega arith))
 
   colour_back : to_z w64 (of_z w64 y) ≡ y
-  colour_back = to_z-of_z (fits_of_abs y (omega arith))
+  colour_back = to_z-of_z {w = w64} (fits_of_abs y (omega arith))
 
   pub adds_fits : SFits w64 (to_z w64 (of_z w64 x) +ℤ to_z w64 (of_z w64 y))
   adds_fits = rw (sum_back, colour_back) (fits_of_abs (x +ℤ y) (omega (arith, abs-add-le x y)))

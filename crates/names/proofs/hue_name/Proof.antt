@@ -28,7 +28,7 @@ clockwise c =
     let t = c.before.before in
     let e = t.before in
     let s = e.before.before in
-    let first = simp (to_z-of_z, s.ranges.a, s.ranges.b) at c.before.first_clockwise_lem.ensures in
+    let first = simp (to_z-of_z, s.ranges.a, s.ranges.b) at c.before.first_clockwise-first.ensures in
     turned s.args.a s.args.b (rw (to_z-of_z s.ranges.cross) at t.if-cross-lt0.true) first c.next_axis.ensures
     ∙ sym (hue_towards s.args.cross s.args.dot s.args.a s.args.b
     (sym (same_is e.before) ∙ e.if-same_hue.false))
@@ -38,7 +38,7 @@ anticlockwise c =
     let t = c.before.before in
     let e = t.before in
     let s = e.before.before in
-    let first = simp (to_z-of_z, s.ranges.a, s.ranges.b) at c.before.first_anticlockwise_lem.ensures in
+    let first = simp (to_z-of_z, s.ranges.a, s.ranges.b) at c.before.first_anticlockwise-first.ensures in
     turned s.args.a s.args.b (rw (to_z-of_z s.ranges.cross) at t.if-cross-lt0.false) first c.next_axis-2.ensures
     ∙ sym (hue_towards s.args.cross s.args.dot s.args.a s.args.b
     (sym (same_is e.before) ∙ e.if-same_hue.false))

@@ -14,14 +14,14 @@ stored c =
     let at-bytes = at_arg.before in
     let twenty = at-bytes.before in
     let a = twenty.before.before.args in (
-      sym (eq-eqb (length a.slice-1.now) 20 twenty.if-slice-eq20.true),
-      at_copy.copy.ensures ∙ at-bytes.bytes_of-b.ensures ∙ stores a.s a.slice-1.now twenty.if-slice-eq20.true,
+      sym (eq-eqb (length a.slice.now) 20 twenty.if-slice-eq20.true),
+      at_copy.copy.ensures ∙ at-bytes.bytes_of-b.ensures ∙ stores a.s a.slice.now twenty.if-slice-eq20.true,
     )
 
 left : tie.Need-returns-else-slice-eq20
 left c =
     let a = c.before.before.args in
-    (sym (ne_eqb (length a.slice-1.now) 20 c.if-slice-eq20.false), stays a.s a.slice-1.now c.if-slice-eq20.false)
+    (sym (ne_eqb (length a.slice.now) 20 c.if-slice-eq20.false), stays a.s a.slice.now c.if-slice-eq20.false)
 
 pub store_spec : {M : Type 1} → statement M
 store_spec =

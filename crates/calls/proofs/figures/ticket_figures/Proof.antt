@@ -14,7 +14,7 @@ returns c =
     let at-outcome = c.before in
     let at-line = at-outcome.before in
     let parsed = at-line.before.parse-p.ensures in
-    let line = at-line.Line-of.ensures ∙ ap line_of parsed in
+    let line = at-line.line_of-line.ensures ∙ ap line_of parsed in
     let outcome = at-outcome.ticket_outcome.ensures ∙ ap ticket_outcome parsed in
     let answer = c.specimen_answer-answer.ensures ∙ ap specimen_answer outcome in
     λ i. record { line = line i; answer = answer i }

@@ -38,13 +38,13 @@ module _ (c : tie.After-tristimulus) where
   at_x = at_y.before
 
   x_is : at_x.magnitude.result ≡ ∣ at_x.before.args.x ∣
-  x_is = rw (to_z-of_z at_x.before.fits.x) at at_x.magnitude.ensures
+  x_is = rw (to_z-of_z at_x.before.ranges.x) at at_x.magnitude.ensures
 
   y_is : at_y.magnitude-2.result ≡ ∣ at_x.before.args.y ∣
-  y_is = rw (to_z-of_z at_x.before.fits.y) at at_y.magnitude-2.ensures
+  y_is = rw (to_z-of_z at_x.before.ranges.y) at at_y.magnitude-2.ensures
 
   z_is : at_z.magnitude-3.result ≡ ∣ at_x.before.args.z ∣
-  z_is = rw (to_z-of_z at_x.before.fits.z) at at_z.magnitude-3.ensures
+  z_is = rw (to_z-of_z at_x.before.ranges.z) at at_z.magnitude-3.ensures
 
 grid-colour-requires : tie.Need-grid_colour-requires
 grid-colour-requires c κs =

@@ -33,7 +33,7 @@ module _ (c : tie.After-magnitude-m) where
   start = other.before.before
 
   size_is : c.magnitude-m.result ≡ ∣ start.args.dc ∣
-  size_is = rw (to_z-of_z start.fits.dc) at c.magnitude-m.ensures
+  size_is = rw (to_z-of_z start.ranges.dc) at c.magnitude-m.ensures
 
   square_is : c.magnitude-m.result * c.magnitude-m.result ≡ square start.args.dc
   square_is = ap (λ (m : ℕ). m * m) size_is
@@ -64,10 +64,10 @@ unfolding hue_change
 some c =
     let m = at_size c.before in
     let back : to_z w64 (of_z w64 c.with_sign.result) ≡ c.with_sign.result = search rules in
-    rw (sym (same_is (other m).before) ∙ (other m).if-same_hue.left)
+    rw (sym (same_is (other m).before) ∙ (other m).if-same_hue.false)
     (back
     ∙ c.with_sign.ensures
-    ∙ ap₂ (λ (z : ℤ) (m : ℕ). signed (minus z) m) (to_z-of_z (start m).fits.x) (root_is c.before))
+    ∙ ap₂ (λ (z : ℤ) (m : ℕ). signed (minus z) m) (to_z-of_z (start m).ranges.x) (root_is c.before))
 
 pub hue_change_spec : {M : Type 1} → statement M
 hue_change_spec =

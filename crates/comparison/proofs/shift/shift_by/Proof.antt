@@ -40,7 +40,7 @@ returns c =
     let dh_is =
     back
     ∙ c.hue_change-dh.ensures
-    ∙ (λ i. hue_change s.args.d2 (dc_is at_dc i) (to_z-of_z s.fits.x i) (to_z-of_z s.fits.y i))
+    ∙ (λ i. hue_change s.args.d2 (dc_is at_dc i) (to_z-of_z s.ranges.x i) (to_z-of_z s.ranges.y i))
     in
     λ i. record { L = dl_is at_dc i; C = dc_is at_dc i; H = dh_is i }
 

@@ -72,9 +72,9 @@ returns c =
     let at-d2 = c.before in
     let s = start at-d2 in
     let p = s.requires in
-    shift_is _ _ (lr_is at-d2) (lt_is at-d2) p.CR p.CT (d2_is at-d2) (to_z-of_z s.fits.x ∙ p.cross)
-    (to_z-of_z s.fits.y ∙ p.dot)
-    c.shift_by_lem.ensures
+    shift_is _ _ (lr_is at-d2) (lt_is at-d2) p.CR p.CT (d2_is at-d2) (to_z-of_z s.ranges.x ∙ p.cross)
+    (to_z-of_z s.ranges.y ∙ p.dot)
+    c.shift_by.ensures
 
 pub shift_with_spec : {M : Type 1} → statement M
 shift_with_spec =

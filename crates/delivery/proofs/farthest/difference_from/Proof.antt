@@ -9,7 +9,7 @@ use Rattle.delivery.proofs.farthest.difference_from.Tie as tie
 
 returns : tie.Need-returns
 unfolding difference_from comparison
-returns c = ap (λ (d : Comparison). d.differences-1.DE) c.before.comparison_of-found.ensures
+returns c = ap (λ (d : Comparison). d.differences.DE) c.before.comparison_of-found.ensures
 
 pub difference_from_spec : {M : Type 1} → statement M
 difference_from_spec = tie.close (tie.spec (λ c κs. search rules) returns)

@@ -31,7 +31,7 @@ module _ (c : tie.In-loop-i invariant-loop decreases-loop) where
   start = head.before.before.before.before.before
 
   in_slice : head.loop-i.i < length head.loop-i.de
-  in_slice = omega (arith, head.loop-i.inv.writing.same_length, c.loop-i-test.true, start.requires.enough)
+  in_slice = omega (arith, head.loop-i.invariant.writing.same_length, c.loop-i-test.true, start.requires.enough)
 
 colour-at-requires : tie.Need-colour_at-cone-requires invariant-loop decreases-loop
 colour-at-requires c κs =

@@ -6,7 +6,7 @@ use Rattle.probe.proofs.answers.words_of.Tie as tie
 
 nothing : tie.Need-returns-in-Nothing
 unfolding words_of
-nothing c = rw c.enum_told-1.given.1
+nothing c = rw c.enum_told.given.1
 
 named : tie.Need-returns-in-Names
 unfolding words_of
@@ -17,7 +17,7 @@ named c =
     let at_lightness = at_chroma.before in
     let at_n = at_lightness.before.before in
     rw (
-      at_n.n-1.given.1,
+      at_n.n.given.1,
       at_lightness.lightness_number.ensures,
       at_chroma.chroma_number.ensures,
       at-hue.hue_number.ensures,

@@ -11,15 +11,15 @@ placed c =
     let at_white_lem = at_place.before.before in
     let at-numbered = at_white_lem.before.before in
     let args = at-numbered.before.args in
-    numbered-placed args.r args.out-1.now
-    at-numbered.numbered.ensures at_white_lem.w-1.given.1 at_place.place_reading.ensures
+    numbered-placed args.r args.out.now
+    at-numbered.numbered.ensures at_white_lem.w.given.1 at_place.place_reading.ensures
     at_store.store_place.ensures
 
 unknown : tie.Need-returns-in-Unknown
 unknown c =
     let at-numbered = c.before.before in
     let args = at-numbered.before.args in
-    numbered-unknown args.r args.out-1.now at-numbered.numbered.ensures c.enum_told-1.given.1
+    numbered-unknown args.r args.out.now at-numbered.numbered.ensures c.enum_told.given.1
 
 pub place_numbered_spec : {M : Type 1} → statement M
 place_numbered_spec =

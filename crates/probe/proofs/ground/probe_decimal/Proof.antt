@@ -14,7 +14,7 @@ answered c =
     let at-quantity = at-units.before in
     let args = at-quantity.before.args in
     let d = decimal_of args.below args.millionths in
-    units-answered (λ (q : Quantity). decimal_units q d) args.out-1.now
+    units-answered (λ (q : Quantity). decimal_units q d) args.out.now
     at-quantity.quantity_of.ensures at-units.decimal_units.ensures at_store.store_units.ensures
 
 pub probe_decimal_spec : {M : Type 1} → statement M

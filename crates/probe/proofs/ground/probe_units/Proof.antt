@@ -12,7 +12,7 @@ answered c =
     let at-units = at_store.before.before in
     let at-quantity = at-units.before in
     let args = at-quantity.before.args in
-    units-answered (λ (q : Quantity). float_units q args.x) args.out-1.now
+    units-answered (λ (q : Quantity). float_units q args.x) args.out.now
     at-quantity.quantity_of.ensures at-units.float_units.ensures at_store.store_units.ensures
 
 pub probe_units_spec : {M : Type 1} → statement M

@@ -6,15 +6,15 @@ use Rattle.probe.proofs.ground.quantity_of.Statement.{statement}
 use Rattle.probe.proofs.ground.quantity_of.Tie as tie
 
 one : tie.Need-returns-in-1
-one c = sym (ap quantity_of c.in-1.keys1)
+one c = sym (ap quantity_of c.match.keys1)
 
 two : tie.Need-returns-in-2
-two c = sym (ap quantity_of c.in-1.keys2)
+two c = sym (ap quantity_of c.match.keys2)
 
 other : tie.Need-returns-in_default
 other c =
     let n = c.before.args.n in
-    let others = c.in-1.rest in
+    let others = c.match.rest in
     simp (ne_eqb n 1 others.0.1, ne_eqb n 2 others.1)
 
 pub quantity_of_spec : {M : Type 1} → statement M

@@ -7,10 +7,10 @@ stored : tie.Need-returns-in-At
 stored c =
     let at_store = c.before in
     let at_p = at_store.before.before.before in
-    rw (at_p.p-1.given.1, at_store.store_colour.ensures)
+    rw (at_p.p.given.1, at_store.store_colour.ensures)
 
 refused : tie.Need-returns-in-Refused
-refused c = rw c.before.p-in-Refused-1.given.1
+refused c = rw c.before.p2.given.1
 
 pub store_place_spec : {M : Type 1} → statement M
 store_place_spec =

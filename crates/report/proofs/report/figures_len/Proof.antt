@@ -27,7 +27,7 @@ withheld : tie.Need-returns-then-withheld
 withheld c =
     let dl = c.before in
     let read = dl.before in
-    let dl-length = rw (DL_back read) at dl.signed_len_lem.ensures in
+    let dl-length = rw (DL_back read) at dl.signed_len.ensures in
     rw (c.if-withheld.true, figures-length-withheld (d read)) (omega arith, omega arith)
 
 shown : tie.Need-returns
@@ -36,7 +36,7 @@ shown c =
     let arm = dc.before.before in
     let dl = arm.before in
     let read = dl.before in
-    let dl-length = rw (DL_back read) at dl.signed_len_lem.ensures in
+    let dl-length = rw (DL_back read) at dl.signed_len.ensures in
     let dc-length = rw (DC_back read) at dc.signed_len-2.ensures in
     let dh-length = rw (DH_back read) at c.signed_len-3.ensures in
     rw (arm.if-withheld.false, figures-length (d read)) (omega arith, omega arith)

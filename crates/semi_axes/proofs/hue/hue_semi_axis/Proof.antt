@@ -35,12 +35,12 @@ module _ (c : tie.After-hue_t_of-t) where
 
   f_is :
       let s = start.args in at_f.hue_f_of-f.result ≡ hue_f 20 (hue_q 20 s.a s.b) (hue_w 20 (hue_q 20 s.a s.b))
-  f_is = simp (to_z-of_z, start.fits.a, start.fits.b) at at_f.hue_f_of-f.ensures
+  f_is = simp (to_z-of_z, start.ranges.a, start.ranges.b) at at_f.hue_f_of-f.ensures
 
   t_is :
       let s = start.args in
       c.hue_t_of-t.result ≡ hue_t 20 (second_form s.a s.b) (hue_m (second_form s.a s.b) s.a s.b) s.c
-  t_is = simp (to_z-of_z, start.fits.a, start.fits.b) at c.hue_t_of-t.ensures
+  t_is = simp (to_z-of_z, start.ranges.a, start.ranges.b) at c.hue_t_of-t.ensures
 
 components-fit : tie.Need-semi_axis_h-requires
 components-fit c κs =

@@ -27,7 +27,7 @@ module _ (c : tie.After-plus_products-else-plus_products-lt0) where
       let s = at_first.before.args in to_z w64 (of_z w64 c.plus_products-else-plus_products-lt0.result)
       ≡ 25881905 · s.a +ℤ 96592583 · s.b
   second_is =
-      let f = at_first.before.fits in
+      let f = at_first.before.ranges in
       let back : to_z w64 (of_z w64 c.plus_products-else-plus_products-lt0.result) ≡ c.plus_products-else-plus_products-lt0.result = search rules in
       rw back (simp (to_z-of_z, f.a, f.b) at c.plus_products-else-plus_products-lt0.ensures)
 

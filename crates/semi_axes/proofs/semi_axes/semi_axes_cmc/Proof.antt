@@ -25,7 +25,7 @@ module _ (c : tie.After-semi_axis_c-sc) where
 hue-semi-axis-requires : tie.Need-hue_semi_axis-sh-requires
 hue-semi-axis-requires c κs =
     let s = start c in
-    simp (to_z-of_z, s.fits.a, s.fits.b)
+    simp (to_z-of_z, s.ranges.a, s.ranges.b)
     (record {
       hue = s.requires.1;
       is = chroma_is (at_chroma c);
@@ -38,7 +38,7 @@ sh_is :
     c.hue_semi_axis-sh.result ≡ hue_semi_axis 20 s.a s.b (chroma s.a s.b) (semi_axis_c 20 (chroma s.a s.b))
 sh_is c =
     let s = start c.before in
-    (simp (to_z-of_z, s.fits.a, s.fits.b) at c.hue_semi_axis-sh.ensures)
+    (simp (to_z-of_z, s.ranges.a, s.ranges.b) at c.hue_semi_axis-sh.ensures)
     ∙ ap₂ (hue_semi_axis 20 s.args.a s.args.b) (chroma_is (at_chroma c.before)) (sc_is c.before)
 
 returns : tie.Need-returns

@@ -16,8 +16,8 @@ use Rattle.standard.proofs.figures.reference_figures.Tie as tie
 -- the figures from their parts
 figures-are :
     (s : Standard) {S : SemiAxes} {L a b C SL SC SH : Float} →
-    S ≡ semi_axes 20 s.settings-1.formula (at_places 20 s.colour-1) →
-    L ≡ value_of s.colour-1.L.0 → a ≡ value_of s.colour-1.a.0 → b ≡ value_of s.colour-1.b.0 →
+    S ≡ semi_axes 20 s.settings.formula (at_places 20 s.colour) →
+    L ≡ value_of s.colour.L.0 → a ≡ value_of s.colour.a.0 → b ≡ value_of s.colour.b.0 →
     C ≡ value_of (pos S.C) → SL ≡ value_of (pos S.SL) → SC ≡ value_of (pos S.SC) → SH ≡ value_of (pos S.SH) →
     ◌≡◌ {A = ReferenceFigures} (record { L = L; a = a; b = b; C = C; SL = SL; SC = SC; SH = SH }) (reference_figures s)
 unfolding reference_figures
@@ -33,7 +33,7 @@ returns c =
     let at_L = at_a.before in
     figures-are _ at_L.before.semi_axes_of-axes.ensures at_L.value.ensures at_a.value-2.ensures
     at_b.value-3.ensures
-    at-C.value_of_lem.ensures at-SL.value_of-2.ensures at-SC.value_of-3.ensures c.value_of-4.ensures
+    at-C.value_of.ensures at-SL.value_of-2.ensures at-SC.value_of-3.ensures c.value_of-4.ensures
 
 pub reference_figures_spec : {M : Type 1} → statement M
 reference_figures_spec =

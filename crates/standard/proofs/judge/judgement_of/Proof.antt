@@ -22,22 +22,22 @@ use Rattle.standard.proofs.judge.judgement_of.Statement.{statement}
 use Rattle.standard.proofs.judge.judgement_of.Tie as tie
 
 module _ (s : Standard) (T : GridColour) {k : Comparison}
-    (hk : k ≡ comparison 20 s.settings-1.formula s.settings-1.l s.settings-1.c s.colour-1 T) where
+    (hk : k ≡ comparison 20 s.settings.formula s.settings.l s.settings.c s.colour T) where
   -- the cross and the dot of the sheet name the hue
   hue_is :
-      {x y a b : ℤ} {hue : Hue} → x ≡ k.cross → y ≡ k.dot → a ≡ s.colour-1.a.0 → b ≡ s.colour-1.b.0 →
+      {x y a b : ℤ} {hue : Hue} → x ≡ k.cross → y ≡ k.dot → a ≡ s.colour.a.0 → b ≡ s.colour.b.0 →
       hue ≡ hue_named x y a b →
-      hue ≡ hue_name s.colour-1 T
-  hue_is hx hy ha hb h = rw (h, hx, hy, ha, hb, hk) (hue_of_comparison 20 _ _ _ s.colour-1 T)
+      hue ≡ hue_name s.colour T
+  hue_is hx hy ha hb h = rw (h, hx, hy, ha, hb, hk) (hue_of_comparison 20 _ _ _ s.colour T)
 
   -- the judgement from its parts
   judgement_is :
       {l c : ℤ} {lightness : Lightness} {chroma : Chroma} {hue : Hue} {t : Scaled} {v : Verdict} {w : Bool} →
       l ≡ k.shift.L → lightness ≡ lightness_name l →
       c ≡ k.shift.C → chroma ≡ chroma_name c →
-      hue ≡ hue_name s.colour-1 T →
-      t ≡ tolerance_on 20 s.settings-1.formula s.settings-1.tolerance-tolerance → v ≡ verdict_on 20 t k.scaled →
-      w ≡ withheld_by s.settings-1.formula s.colour-1 T →
+      hue ≡ hue_name s.colour T →
+      t ≡ tolerance_on 20 s.settings.formula s.settings.tolerance → v ≡ verdict_on 20 t k.scaled →
+      w ≡ withheld_by s.settings.formula s.colour T →
       ◌≡◌ {A = Judgement}
       (record {
         standard = s;
@@ -78,7 +78,7 @@ module _ (c : tie.After-hue_name-hue) where
   found = at_sheet.comparison_of-found.result
 
   abbrev R : GridColour
-  R = start.args.s.colour-1
+  R = start.args.s.colour
 
   named : c.hue_name-hue.result ≡ hue_name R start.args.t
   named =
@@ -107,7 +107,7 @@ judgement_of_spec =
     (λ c κs. search rules)
     (λ c κs. search rules)
     (λ c κs. search rules)
-    (λ c κs. (start c).requires.standard.tolerance-tolerance.high)
+    (λ c κs. (start c).requires.standard.tolerance.high)
     (λ c κs. search rules)
     (λ c κs. search rules)
     returns)

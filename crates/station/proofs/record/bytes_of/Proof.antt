@@ -15,21 +15,21 @@ use Rattle.station.proofs.record.bytes_of.Tie as tie
 -- the bytes from the numbers
 encode_is :
     (s : Standard) {f w L a b : ℕ} {r : List ℕ} →
-    f ≡ number_of_formula s.settings-1.formula → w ≡ number_of_white s.settings-1.white →
-    L ≡ twos_of s.colour-1.L.0 → a ≡ twos_of s.colour-1.a.0 → b ≡ twos_of s.colour-1.b.0 →
-    r ≡ record_of f w s.settings-1.l s.settings-1.c s.settings-1.tolerance L a b →
+    f ≡ number_of_formula s.settings.formula → w ≡ number_of_white s.settings.white →
+    L ≡ twos_of s.colour.L.0 → a ≡ twos_of s.colour.a.0 → b ≡ twos_of s.colour.b.0 →
+    r ≡ record_of f w s.settings.l s.settings.c s.settings.tolerance L a b →
     r ≡ encode s
 unfolding encode
 encode_is s hf hw h_l ha hb hr = cc
 
 module _ (s : tie.Start) where
-  L_back : to_z w64 (of_z w64 s.args.s.colour-1.L.0) ≡ s.args.s.colour-1.L.0
+  L_back : to_z w64 (of_z w64 s.args.s.colour.L.0) ≡ s.args.s.colour.L.0
   L_back = search rules
 
-  a_back : to_z w64 (of_z w64 s.args.s.colour-1.a.0) ≡ s.args.s.colour-1.a.0
+  a_back : to_z w64 (of_z w64 s.args.s.colour.a.0) ≡ s.args.s.colour.a.0
   a_back = search rules
 
-  b_back : to_z w64 (of_z w64 s.args.s.colour-1.b.0) ≡ s.args.s.colour-1.b.0
+  b_back : to_z w64 (of_z w64 s.args.s.colour.b.0) ≡ s.args.s.colour.b.0
   b_back = search rules
 
 returns : tie.Need-returns

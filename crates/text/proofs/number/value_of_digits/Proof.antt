@@ -44,19 +44,19 @@ high c =
     let l = at_turn not_low in
     let a = l.before.before.args in
     sym
-    (l.loop-i.inv.goes_on
+    (l.loop-i.invariant.goes_on
     ∙ numeral_none_of_high l.loop-i.v a.s.now l.loop-i.i (turn not_low).loop-i-test.true not_low.if-b-lt48.false
     c.if-b-gt57.true)
 
 mul_v : tie.Need-overflow_mul-v invariant-loop decreases-loop
 mul_v c =
     let l = at_turn c.before in
-    omega (arith, five-digits-lt l.loop-i.v l.loop-i.i l.loop-i.inv.small (omega arith))
+    omega (arith, five-digits-lt l.loop-i.v l.loop-i.i l.loop-i.invariant.small (omega arith))
 
 add_v : tie.Need-overflow_add-v invariant-loop decreases-loop
 add_v c =
     let l = at_turn c.before.before in
-    omega (arith, five-digits-lt l.loop-i.v l.loop-i.i l.loop-i.inv.small (omega arith))
+    omega (arith, five-digits-lt l.loop-i.v l.loop-i.i l.loop-i.invariant.small (omega arith))
 
 loop-again : tie.Need-loop-i-preserved invariant-loop decreases-loop
 loop-again c =
@@ -65,14 +65,14 @@ loop-again c =
     let a = l.before.before.args in
     let d = c.wide in
     let next =
-    numeral-next l.loop-i.v a.s.now l.loop-i.i (turn digit.before).loop-i-test.taken
+    numeral-next l.loop-i.v a.s.now l.loop-i.i (turn digit.before).loop-i-test.true
     digit.before.if-b-lt48.false digit.if-b-gt57.false in
     record {
       goes_on =
-          l.loop-i.inv.goes_on ∙ next ∙ ap
+          l.loop-i.invariant.goes_on ∙ next ∙ ap
           (λ (x : ℕ). numeral (l.loop-i.v * 10 + x) (drop (l.loop-i.i + 1) a.s.now)) (sym d.ensures);
       within = omega arith;
-      small = digit_more l.loop-i.v d.result l.loop-i.i l.loop-i.inv.small (omega arith);
+      small = digit_more l.loop-i.v d.result l.loop-i.i l.loop-i.invariant.small (omega arith);
     }
 
 end : tie.Need-returns invariant-loop decreases-loop

@@ -1,0 +1,17 @@
+-- The line is wrong, or the next has what it says. Assumes nothing.
+use Rattle.std.proofs.Common.{refl, ap}
+use Rattle.text.specs.Number.Laws.{number_in}
+use Rattle.ticket.specs.Ticket.{tol_line}
+use Rattle.ticket.specs.Ticket.Laws.{due-read, thousandths_of_nil}
+use Rattle.ticket.proofs.lines.tol_line.Goals as goal
+
+pub returns-in-Nothing : goal.returns-in-Nothing
+unfolding tol_line
+returns-in-Nothing c =
+    due-read _ _ _ _ _ thousandths_of_nil c.value.ensures c.thousandths.ensures (ap number_in c.in-Nothing.is) refl refl
+
+pub returns-in-Is : goal.returns-in-Is
+unfolding tol_line
+returns-in-Is c =
+    due-read _ _ _ _ _ thousandths_of_nil c.value.ensures c.thousandths.ensures (ap number_in c.in-Is.is)
+    c.part_after-rest.ensures c.space_line.ensures
