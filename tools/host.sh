@@ -8,21 +8,19 @@
 #     host_accepts LANGUAGE STANDARD SOURCE   compiles a source as that language and keeps nothing
 #     host_rust PROGRAM SOURCE.rs             compiles a program for this machine itself
 #
-# What the tests, bench/ and tools/ share. The archives are x86-64 code. On x86-64 the machine's own cc serves.
-# Elsewhere it is the kit's clang, the system's ld.lld, the kit's C library for x86-64 and the kit's emulator.
-# HOST_BY_KIT=1 goes this second way on x86-64 too, where it needs no emulator.
+# What the tests, bench/ and tools/ share. The archives are x86-64 code, as the kit is, and the machine's own cc serves.
+# HOST_BY_KIT=1 takes the kit's clang, its ld.lld and its C library instead.
 
 . tools/build.sh
 
 host_is_native() {
-    [ "$(uname -m)" = x86_64 ] && [ "${HOST_BY_KIT:-0}" = 0 ]
+    [ "${HOST_BY_KIT:-0}" = 0 ]
 }
 
-# the kit's folder of tools that run on this machine; the C library for x86-64 lies in its lib
+# the kit's folder of tools; its C library lies in lib
 host_toolchain() {
     build_needs_rt || return
-    kit=$(dirname "$(dirname "$(readlink -f "$(command -v rt)")")")
-    echo "$kit/on/$(uname -m)/toolchain"
+    echo "$(dirname "$(dirname "$(readlink -f "$(command -v rt)")")")/toolchain"
 }
 
 # in a shell of its own, since this may be sourced at a prompt
@@ -39,26 +37,21 @@ host_needs() {
 
 # The next ones run in a shell of their own, so that they change no variable of the script that calls them.
 
-# The kit's clang, compiling for x86-64. It has no headers of its own, so it takes this machine's: those of cc, and of
-# the C library, which clang looks for in /usr/include but not in the folder of another machine below. They serve, since
-# every type that the headers used here name has the same size on both.
+# The kit's clang. It has no headers of its own, so it takes this machine's, those of cc and of the C library.
 host_clang() (
     exec "$(host_toolchain)/bin/clang" --target=x86_64-linux-gnu -isystem "$(cc -print-file-name=include)" \
-        -isystem "/usr/include/$(uname -m)-linux-gnu" "$@"
+        -isystem /usr/include/x86_64-linux-gnu "$@"
 )
 
-# With -no-pie the program stands at a fixed address where the kit's way is gone, so that the addresses in a trace are
-# those of nm; cc decides for itself.
 host_build() (
     program=$1 source=$2
     shift 2
     host_needs cc gcc || exit
-    include='' link='' math='' place=-pie
+    include='' link='' math=''
     for word in "$@"; do
         case $word in
         -I*) include="$include $word" ;;
         -lm) math=yes ;;
-        -no-pie) place=$word ;;
         *) link="$link $word" ;;
         esac
     done
@@ -68,10 +61,11 @@ host_build() (
         # shellcheck disable=SC2086
         exec cc "$@" -o "$program" "$source" $link ${math:+-lm}
     fi
-    lib=$(host_toolchain)/lib || exit
+    own=$(host_toolchain) || exit
+    lib=$own/lib
     # shellcheck disable=SC2086
     host_clang "$@" -fPIC -c "$source" -o "$program.o" &&
-        ld.lld "$place" -o "$program" --dynamic-linker "$lib/ld-linux-x86-64.so.2" "$lib/Scrt1.o" "$lib/crti.o" \
+        "$own/bin/ld.lld" -pie -o "$program" --dynamic-linker "$lib/ld-linux-x86-64.so.2" "$lib/Scrt1.o" "$lib/crti.o" \
             "$program.o" $link ${math:+"$lib/libm.so.6"} "$lib/libc.so.6" "$lib/libc_nonshared.a" "$lib/crtn.o"
 )
 
@@ -79,12 +73,9 @@ host_run() (
     if host_is_native; then
         exec "$@"
     fi
-    own=$(host_toolchain) || exit
-    lib=$own/lib
+    lib=$(host_toolchain)/lib || exit
     # by the kit's loader: the program gets the C library that it was linked with
-    set -- "$lib/ld-linux-x86-64.so.2" --library-path "$lib" "$@"
-    [ "$(uname -m)" = x86_64 ] || set -- "$own/bin/qemu-x86_64" "$@"
-    exec "$@"
+    exec "$lib/ld-linux-x86-64.so.2" --library-path "$lib" "$@"
 )
 
 # By the kit's clang, which is C and C++ in one; a machine's cc need not be.
