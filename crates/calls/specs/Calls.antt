@@ -15,12 +15,7 @@ use Rattle.standard.specs.declared.judge.Outcome.TheVariants.{Refused, Judged}
 use Rattle.station.specs.Record.{decode}
 use Rattle.station.specs.Runs.{left}
 use Rattle.calls.specs.Outcome.{loaded, load_faults, judged_by, judge_faults, ticket_outcome, ticket_faults}
-pub mod Laws
-pub mod One
-pub mod Every
-pub mod Ticket
 pub mod Numbers
-pub mod Exact
 
 -- a call's number, and the bytes of the slice afterwards
 pub record Answer : Type 0 where

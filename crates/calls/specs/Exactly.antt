@@ -9,7 +9,7 @@ use Rattle.colour.specs.White.{white_numbered}
 use Rattle.colour.specs.declared.placed.Reading.{Reading}
 use Rattle.colour.specs.declared.white.White.{White}
 use Rattle.colour.specs.declared.white.Numbered.TheVariants.{Is}
-use Rattle.cones.specs.Cones.Exactly.{FirstBy, OutAlone, BeyondAlone}
+use Rattle.cones.proofs.Theorems.Cones.Exactly.{FirstBy, OutAlone, BeyondAlone}
 use Rattle.ticket.specs.Ticket.{ticket_of}
 use Rattle.ticket.specs.Ticket.Grammar.{WrongAt, Consists}
 use Rattle.ticket.specs.declared.lines.Ticket.{Ticket}
@@ -25,13 +25,6 @@ use Rattle.calls.specs.Outcome.{judged_by, ticket_outcome}
 use Rattle.calls.specs.Calls.Numbers.{OneOf}
 use Rattle.calls.specs.Exactly.First.{NoneOf}
 pub mod First
-pub mod Rows
-pub mod Rules
-pub mod Loads
-pub mod Judgements
-pub mod Tickets
-pub mod Sorts
-pub mod Refused
 
 -- ---- A LOAD: 1, 2, 3, 4, then the reference's 5, 6, 8, then 10
 

@@ -6,7 +6,6 @@ use Rattle.ticket.specs.declared.lines.Parsed.TheVariants.{Right, Wrong}
 use Rattle.standard.specs.Figures.{specimen_answer}
 use Rattle.calls.specs.declared.figures.TicketAnswer.{TicketAnswer}
 use Rattle.calls.specs.Outcome.{ticket_outcome}
-pub mod Laws
 
 -- the first wrong line, and 0 where the text is right
 abbrev pub line_of : Parsed → ℕ

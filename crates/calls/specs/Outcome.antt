@@ -21,9 +21,6 @@ use Rattle.standard.specs.declared.judge.Outcome.{Outcome}
 use Rattle.standard.specs.declared.judge.Outcome.TheVariants.{Refused}
 use Rattle.station.specs.declared.Station.{Station}
 use Rattle.station.specs.declared.Station.TheVariants.{Empty, Holds}
-pub mod Load
-pub mod Judge
-pub mod Ticket
 pub mod Each
 
 -- ---- a load

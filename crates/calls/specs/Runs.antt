@@ -8,7 +8,6 @@ use Rattle.station.specs.Record.{zeros}
 use Rattle.station.specs.Runs.{last_accepted, fresh}
 use Rattle.calls.specs.Outcome.{loaded}
 use Rattle.calls.specs.Calls.{Gives, load_call, judge_call}
-pub mod Laws
 
 pub data Call : Type 0 where
   load : (formula white l c tolerance : ℕ) → Reading → Call

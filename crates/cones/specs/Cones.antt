@@ -13,7 +13,6 @@ use Rattle.cones.specs.declared.Kind.{Kind}
 use Rattle.cones.specs.declared.Kind.TheVariants.{Xyz, Lab}
 use Rattle.cones.specs.Zip.{zip}
 use Rattle.cones.specs.InTurn.{Turn, taken, denied, Turns, whole, refused, in_turn}
-pub mod Exactly
 
 abbrev pub reading_of : Kind → (x y z : Float) → Reading
 reading_of Xyz x y z = R.Xyz x y z

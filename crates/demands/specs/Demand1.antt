@@ -31,18 +31,18 @@ use Rattle.standard.specs.declared.figures.SpecimenAnswer.{SpecimenAnswer}
 use Rattle.station.specs.Record.{decode}
 use Rattle.calls.specs.Outcome.{loaded, judged_by}
 use Rattle.calls.specs.Line.{ticket_answer}
-use Rattle.calls.specs.Line.Laws.{line_with_7, line_0_but_for_7}
+use Rattle.calls.proofs.Theorems.Line.Laws.{line_with_7, line_0_but_for_7}
 use Rattle.calls.specs.declared.figures.TicketAnswer.{TicketAnswer}
 use Rattle.calls.specs.Calls.{Gives, load_call, judge_call, ticket_call}
 use Rattle.calls.specs.Calls.Numbers.{OneOf}
 use Rattle.calls.specs.Exactly.{LoadByValue, LoadByCall, JudgeByValue, JudgeByCall, TicketByValue, TicketByCall}
 use Rattle.calls.specs.Exactly.{SortRows, RefusedCone}
-use Rattle.calls.specs.Exactly.Loads.{load_by_value, load_by_call}
-use Rattle.calls.specs.Exactly.Judgements.{judge_by_value, judge_by_call}
-use Rattle.calls.specs.Exactly.Tickets.{ticket_by_value, ticket_by_call}
-use Rattle.calls.specs.Exactly.Sorts.{sort-rows, refused-cone}
-use Rattle.calls.specs.Exactly.Refused.{reference-answers, specimen-answers}
-use Rattle.calls.specs.Exactly.Refused.{load_kept, judge-kept, ticket-kept, given-kept, number_given, station-kept}
+use Rattle.calls.proofs.Theorems.Exactly.Loads.{load_by_value, load_by_call}
+use Rattle.calls.proofs.Theorems.Exactly.Judgements.{judge_by_value, judge_by_call}
+use Rattle.calls.proofs.Theorems.Exactly.Tickets.{ticket_by_value, ticket_by_call}
+use Rattle.calls.proofs.Theorems.Exactly.Sorts.{sort-rows, refused-cone}
+use Rattle.calls.proofs.Theorems.Exactly.Refused.{reference-answers, specimen-answers}
+use Rattle.calls.proofs.Theorems.Exactly.Refused.{load_kept, judge-kept, ticket-kept, given-kept, number_given, station-kept}
 use Rattle.calls.specs.Runs.{Call, slice_after}
 
 -- ---- BY VALUE: each number exactly then, and with any but 0 every figure is 0.0, and there is no name

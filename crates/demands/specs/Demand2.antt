@@ -60,17 +60,17 @@ use Rattle.station.specs.Record.{decode, zeros}
 use Rattle.station.specs.Runs.{fresh, last_accepted}
 use Rattle.station.specs.declared.Station.TheVariants.{Empty, Holds}
 use Rattle.calls.specs.Outcome.{loaded, judged_by, judge_faults, ticket_outcome, ticket_faults}
-use Rattle.calls.specs.Outcome.Load.{accepted-load}
-use Rattle.calls.specs.Outcome.Judge.{judged-said, judge-number, judge-room, judge_some}
-use Rattle.calls.specs.Outcome.Ticket.{ticket-said, ticket-number, ticket-room, ticket_some}
+use Rattle.calls.proofs.Theorems.Outcome.Load.{accepted-load}
+use Rattle.calls.proofs.Theorems.Outcome.Judge.{judged-said, judge-number, judge-room, judge_some}
+use Rattle.calls.proofs.Theorems.Outcome.Ticket.{ticket-said, ticket-number, ticket-room, ticket_some}
 use Rattle.calls.specs.Line.{ticket_answer}
 use Rattle.calls.specs.Calls.{Answer, load_call, judge_call, ticket_call, reported as reported_by}
-use Rattle.calls.specs.Calls.Every.{place_back}
-use Rattle.calls.specs.Calls.Exact.{load-exact, judge-exact, ticket-exact}
-use Rattle.calls.specs.Calls.Laws.{ticket_call_is}
-use Rattle.calls.specs.Calls.Ticket.{BothSay, once_loaded, once_stored, ticket_does_both, ticket_call_does_both}
+use Rattle.calls.proofs.Theorems.Calls.Every.{place_back}
+use Rattle.calls.proofs.Theorems.Calls.Exact.{load-exact, judge-exact, ticket-exact}
+use Rattle.calls.proofs.Theorems.Calls.Laws.{ticket_call_is}
+use Rattle.calls.proofs.Theorems.Calls.Ticket.{BothSay, once_loaded, once_stored, ticket_does_both, ticket_call_does_both}
 use Rattle.calls.specs.Runs.{Call, slice_after, loads}
-use Rattle.calls.specs.Runs.Laws.{run_load, run_judge, run_holds_last, zeros-judge}
+use Rattle.calls.proofs.Theorems.Runs.Laws.{run_load, run_judge, run_holds_last, zeros-judge}
 use Rattle.demands.specs.Demand2.Reports.{Reported, reported}
 pub mod Reports
 

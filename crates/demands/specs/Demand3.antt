@@ -20,7 +20,8 @@ use Rattle.sheet.specs.Sheet.{sheet, verdict}
 use Rattle.sheet.specs.declared.formula.Formula.{Formula}
 use Rattle.sheet.specs.declared.formula.Formula.TheVariants.{CMC}
 use Rattle.sheet.specs.declared.verdict.Verdict.TheVariants.{Near, Pass, Fail}
-use Rattle.finer.specs.Finer.{VerdictKept, no_finer_sheet_changes_a_verdict}
+use Rattle.finer.specs.Finer.{VerdictKept}
+use Rattle.finer.proofs.Theorems.Finer.{no_finer_sheet_changes_a_verdict}
 use Rattle.cones.specs.declared.Kind.{Kind}
 use Rattle.delivery.specs.Delivery.{difference_from}
 use Rattle.delivery.proofs.Theorems.Sorted.Exact.{Delivery, mean, cone, DE as DE-of, cone_on_grid, mean_in_range}
@@ -31,8 +32,8 @@ use Rattle.standard.specs.declared.judge.Judgement.{Judgement}
 use Rattle.standard.specs.declared.judge.Outcome.TheVariants.{Judged}
 use Rattle.station.specs.Record.{decode}
 use Rattle.calls.specs.Outcome.{judged_by, ticket_outcome}
-use Rattle.calls.specs.Outcome.Judge.{judged-said}
-use Rattle.calls.specs.Outcome.Ticket.{ticket-said}
+use Rattle.calls.proofs.Theorems.Outcome.Judge.{judged-said}
+use Rattle.calls.proofs.Theorems.Outcome.Ticket.{ticket-said}
 
 -- ---- of any two colours
 

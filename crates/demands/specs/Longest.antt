@@ -24,8 +24,8 @@ use Rattle.standard.specs.declared.judge.Outcome.TheVariants.{Refused, Judged}
 use Rattle.station.specs.Record.{decode}
 use Rattle.calls.specs.Outcome.{judged_by, ticket_outcome}
 use Rattle.calls.specs.Outcome.Each.{judge_each, ticket_each}
-use Rattle.calls.specs.Outcome.Judge.{judged-said}
-use Rattle.calls.specs.Outcome.Ticket.{ticket-said}
+use Rattle.calls.proofs.Theorems.Outcome.Judge.{judged-said}
+use Rattle.calls.proofs.Theorems.Outcome.Ticket.{ticket-said}
 use Rattle.calls.specs.Calls.{Answer, room_fault, judge_call, ticket_call}
 use Rattle.demands.specs.Longest.Figures.{sheet-figures}
 use Rattle.demands.specs.Longest.Names.{not_minus_component, not_minus_of_lighter, not_minus_of_equal}

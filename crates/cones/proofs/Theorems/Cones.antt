@@ -1,2 +1,3 @@
 -- Theorems on `specs/Cones.antt`.
 pub mod Laws
+pub mod Exactly

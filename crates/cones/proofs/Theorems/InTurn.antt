@@ -1,3 +1,4 @@
 -- Theorems on `specs/InTurn.antt`.
 pub mod Cases
 pub mod Laws
+pub mod Exactly

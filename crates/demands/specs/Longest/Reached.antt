@@ -24,8 +24,8 @@ use Rattle.station.specs.Record.{encode, decode}
 use Rattle.station.specs.Record.Back.{decode-encode}
 use Rattle.calls.specs.Outcome.{judged_by}
 use Rattle.calls.specs.Calls.{judge_call}
-use Rattle.calls.specs.Calls.Every.{as_lab, place_back}
-use Rattle.calls.specs.Calls.Laws.{reported-judged, judge_call_gives}
+use Rattle.calls.proofs.Theorems.Calls.Every.{as_lab, place_back}
+use Rattle.calls.proofs.Theorems.Calls.Laws.{reported-judged, judge_call_gives}
 
 -- a colour by whole L*, a*, b*
 abbrev lab : (L a b : ℤ) → GridColour

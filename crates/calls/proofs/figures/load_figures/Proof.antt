@@ -3,7 +3,7 @@
 use mathlib.Core.Path.{sym, ap, ◌∙◌}
 use borrow.Author.Rules.{rules}
 use Rattle.standard.specs.Figures.{reference_answer}
-use Rattle.calls.specs.Outcome.Load.{loaded-valid}
+use Rattle.calls.proofs.Theorems.Outcome.Load.{loaded-valid}
 use Rattle.calls.proofs.figures.load_figures.Statement.{statement}
 use Rattle.calls.proofs.figures.load_figures.Tie as tie
 

@@ -1,7 +1,7 @@
 -- `lent::judge_call` meets its contract: it is what the slice's station comes to, reported. Assumes nothing.
 use borrow.Author.Rules.{rules}
-use Rattle.calls.specs.Calls.Laws.{judge_call_gives}
-use Rattle.calls.specs.Runs.Laws.{judged-after}
+use Rattle.calls.proofs.Theorems.Calls.Laws.{judge_call_gives}
+use Rattle.calls.proofs.Theorems.Runs.Laws.{judged-after}
 use Rattle.calls.proofs.lent.judge_call.Statement.{statement}
 use Rattle.calls.proofs.lent.judge_call.Tie as tie
 

@@ -1,5 +1,5 @@
 -- `lent::load_call` meets its contract: one law of `Calls/Laws.antt` for each way out. Assumes nothing.
-use Rattle.calls.specs.Calls.Laws.{load-call-refused, load-call-stored, load-call-other}
+use Rattle.calls.proofs.Theorems.Calls.Laws.{load-call-refused, load-call-stored, load-call-other}
 use Rattle.calls.proofs.lent.load_call.Goals as goal
 
 pub returns-in-Refused : goal.returns-in-Refused

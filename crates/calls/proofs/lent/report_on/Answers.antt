@@ -1,6 +1,6 @@
 -- `lent::report_on` meets its contract: a refusal leaves the room, and a judgement is written as the report of it.
 -- Assumes nothing.
-use Rattle.calls.specs.Calls.Laws.{reported-refused, reported-judged}
+use Rattle.calls.proofs.Theorems.Calls.Laws.{reported-refused, reported-judged}
 use Rattle.calls.proofs.lent.report_on.Goals as goal
 
 pub returns-in-Refused : goal.returns-in-Refused

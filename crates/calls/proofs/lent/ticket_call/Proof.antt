@@ -1,6 +1,6 @@
 -- `lent::ticket_call` meets its contract: it is what the parsed text comes to, reported. Assumes nothing.
 use borrow.Author.Rules.{rules}
-use Rattle.calls.specs.Calls.Laws.{ticket_call_gives}
+use Rattle.calls.proofs.Theorems.Calls.Laws.{ticket_call_gives}
 use Rattle.calls.proofs.lent.ticket_call.Statement.{statement}
 use Rattle.calls.proofs.lent.ticket_call.Tie as tie
 

@@ -1,7 +1,7 @@
 -- `outcome::judge_outcome` meets its contract: one law of `Outcome/Judge.antt` for each way out; what a slice holds is
 -- valid. Assumes nothing.
 use Rattle.std.proofs.Common.{sym, ◌∙◌}
-use Rattle.calls.specs.Outcome.Judge.{judge-empty, judge-held, held-judgeable}
+use Rattle.calls.proofs.Theorems.Outcome.Judge.{judge-empty, judge-held, held-judgeable}
 use Rattle.calls.proofs.outcome.judge_outcome.Goals as goal
 
 pub judge-requires : goal.judge-requires

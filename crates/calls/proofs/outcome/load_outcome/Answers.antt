@@ -1,5 +1,5 @@
 -- `outcome::load_outcome` meets its contract: one law of `Outcome/Load.antt` for each way out. Assumes nothing.
-use Rattle.calls.specs.Outcome.Load.{load-unnamed, load-tried}
+use Rattle.calls.proofs.Theorems.Outcome.Load.{load-unnamed, load-tried}
 use Rattle.calls.proofs.outcome.load_outcome.Goals as goal
 
 pub returns-in-Refused : goal.returns-in-Refused

@@ -1,6 +1,6 @@
 -- `outcome::right_outcome` meets its contract: one law of `Outcome/Ticket.antt` for each way out; what was accepted is
 -- valid. Assumes nothing.
-use Rattle.calls.specs.Outcome.Ticket.{ticket_unaccepted, ticket-judged, ticket-judgeable}
+use Rattle.calls.proofs.Theorems.Outcome.Ticket.{ticket_unaccepted, ticket-judged, ticket-judgeable}
 use Rattle.calls.proofs.outcome.right_outcome.Goals as goal
 
 pub judge-requires : goal.judge-requires

@@ -16,7 +16,7 @@ use Rattle.cones.specs.declared.Kind.{Kind}
 use Rattle.cones.specs.Zip.{Even, zip_length}
 use Rattle.cones.specs.InTurn.{Turn, taken, denied, Turns, whole, refused, in_turn}
 use Rattle.cones.proofs.Theorems.InTurn.Laws.{Passed, AllPassed, passed_none, passed_all, passed-refused, passed_more}
-use Rattle.cones.specs.InTurn.Exactly.{AllTaken, none, more, taken_at, taken-length, whole_exactly}
+use Rattle.cones.proofs.Theorems.InTurn.Exactly.{AllTaken, none, more, taken_at, taken-length, whole_exactly}
 use Rattle.cones.specs.Cones.{reading_of, readings_of, no_reading, placed_turn, turn_in, cones_in, colours_of, colours_in}
 use Rattle.cones.specs.Cones.{no_colour}
 

@@ -17,7 +17,7 @@ use Rattle.sheet.proofs.Theorems.Sheet.Facts.{sheet_self}
 use Rattle.sheet.specs.declared.differences.Differences.{Differences}
 use Rattle.sheet.specs.declared.formula.Formula.TheVariants.{CMC}
 use Rattle.cones.specs.InTurn.{whole}
-use Rattle.cones.specs.InTurn.Exactly.{taken_perm, whole_exactly}
+use Rattle.cones.proofs.Theorems.InTurn.Exactly.{taken_perm, whole_exactly}
 use Rattle.cones.specs.Cones.{no_reading, turn_in, cones_in, no_colour}
 use Rattle.delivery.specs.Delivery.{mean_colour, difference_from, differences}
 use Rattle.delivery.specs.Farthest.{farthest}

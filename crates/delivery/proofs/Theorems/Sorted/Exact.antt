@@ -20,9 +20,9 @@ use Rattle.colour.specs.declared.placed.Reading.{Reading}
 use Rattle.colour.specs.declared.white.White.{White}
 use Rattle.colour.specs.declared.white.Numbered.TheVariants as W
 use Rattle.cones.specs.InTurn.{Turns, whole, refused, number_of}
-use Rattle.cones.specs.InTurn.Exactly.{AllTaken, taken-length, taken_at, whole_exactly}
+use Rattle.cones.proofs.Theorems.InTurn.Exactly.{AllTaken, taken-length, taken_at, whole_exactly}
 use Rattle.cones.specs.Cones.{readings_of, no_reading, turn_in, cones_in, no_colour}
-use Rattle.cones.specs.Cones.Exactly.{cone_refused_by}
+use Rattle.cones.proofs.Theorems.Cones.Exactly.{cone_refused_by}
 use Rattle.cones.proofs.Theorems.Cones.Laws.{readings_length, taken_of, taken_on_grid}
 use Rattle.cones.specs.declared.Kind.{Kind}
 use Rattle.standard.specs.Figures.{zero}

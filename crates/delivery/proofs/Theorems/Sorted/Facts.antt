@@ -18,7 +18,7 @@ use Rattle.colour.specs.declared.white.White.{White}
 use Rattle.colour.specs.declared.white.Numbered.TheVariants.{Is}
 use Rattle.cones.specs.Zip.{Even}
 use Rattle.cones.specs.InTurn.{taken}
-use Rattle.cones.specs.InTurn.Exactly.{AllTaken, taken_at, taken_perm, taken_one, taken_same, whole_exactly}
+use Rattle.cones.proofs.Theorems.InTurn.Exactly.{AllTaken, taken_at, taken_perm, taken_one, taken_same, whole_exactly}
 use Rattle.cones.specs.Cones.{readings_of, no_reading, turn_in, no_colour}
 use Rattle.cones.proofs.Theorems.Cones.Laws.{readings_length, taken_of}
 use Rattle.cones.specs.declared.Kind.{Kind}

@@ -9,7 +9,7 @@ use Rattle.colour.specs.Conversion.Ranges.{OnGrid}
 use Rattle.colour.specs.declared.conversion.GridColour.{GridColour}
 use Rattle.colour.specs.declared.white.White.{White}
 use Rattle.cones.specs.InTurn.{Turns, whole, refused}
-use Rattle.cones.specs.InTurn.Exactly.{AllTaken, taken-length, whole_exactly}
+use Rattle.cones.proofs.Theorems.InTurn.Exactly.{AllTaken, taken-length, whole_exactly}
 use Rattle.cones.specs.Cones.{readings_of, no_reading, turn_in, cones_in, colours_of, colours_in}
 use Rattle.cones.proofs.Theorems.Cones.Laws.{readings_length, taken_on_grid}
 use Rattle.cones.specs.declared.Kind.{Kind}

@@ -18,15 +18,15 @@ use Rattle.station.specs.Record.Exactly.{FactorsOut, ToleranceOut}
 use Rattle.station.specs.Record.Exactly.Accepting.{accepting}
 use Rattle.calls.specs.Outcome.{ticket_outcome, ticket_faults}
 use Rattle.calls.specs.Outcome.Each.{ticket_each}
-use Rattle.calls.specs.Outcome.Ticket.{both_number, ticket-number, ticket-room}
+use Rattle.calls.proofs.Theorems.Outcome.Ticket.{both_number, ticket-number, ticket-room}
 use Rattle.calls.specs.Calls.{room_fault, ticket_call}
 use Rattle.calls.specs.Calls.Numbers.{OneOf, ticket_never_1_2_5_or_9}
 use Rattle.calls.specs.Exactly.{WrongText, InTicket, TicketFactorsOut, TicketToleranceOut}
 use Rattle.calls.specs.Exactly.{ReferenceOut, ReferenceBeyond, TestOut, TestBeyond}
 use Rattle.calls.specs.Exactly.{RoomShort, TicketRows, TicketByValue, TicketByCall}
-use Rattle.calls.specs.Exactly.Rules.{written_first, accept_first, room_first}
+use Rattle.calls.proofs.Theorems.Exactly.Rules.{written_first, accept_first, room_first}
 use Rattle.calls.specs.Exactly.First.{Rule, rule, First, here, later, Same, more, first_same, first_then}
-use Rattle.calls.specs.Exactly.Rows.{AnyOf, rows_of, row, row_before, row_zero}
+use Rattle.calls.proofs.Theorems.Exactly.Rows.{AnyOf, rows_of, row, row_before, row_zero}
 
 abbrev OfValue : ℕ → Type 0
 OfValue n = OneOf n (0 ∷ 3 ∷ 4 ∷ 6 ∷ 7 ∷ 8 ∷ [])

@@ -26,9 +26,9 @@ use Rattle.station.specs.Record.{store_in, decode}
 use Rattle.station.specs.Record.Laws.{stays}
 use Rattle.station.specs.Runs.{left}
 use Rattle.calls.specs.Outcome.{loaded, load_faults, judged_by, judge_faults, ticket_outcome, ticket_faults}
-use Rattle.calls.specs.Outcome.Load.{load-number, load-room, load_some}
-use Rattle.calls.specs.Outcome.Judge.{judge-number, judge-room}
-use Rattle.calls.specs.Outcome.Ticket.{ticket-number, ticket-room}
+use Rattle.calls.proofs.Theorems.Outcome.Load.{load-number, load-room, load_some}
+use Rattle.calls.proofs.Theorems.Outcome.Judge.{judge-number, judge-room}
+use Rattle.calls.proofs.Theorems.Outcome.Ticket.{ticket-number, ticket-room}
 use Rattle.calls.specs.Calls.{Answer, Gives, writing, length_fault, load_call, room_fault, with_report, judge_call}
 use Rattle.calls.specs.Calls.{ticket_call, reported}
 

@@ -14,7 +14,7 @@ use Rattle.sheet.specs.Settings.{within, is_factor}
 use Rattle.sheet.proofs.Theorems.Settings.Laws.{within_true, within_in}
 use Rattle.cones.specs.InTurn.{Turns, whole, refused, number_of, index_of}
 use Rattle.cones.specs.Cones.{cones_in}
-use Rattle.cones.specs.Cones.Exactly.{FirstBy, OutAlone, BeyondAlone, cone-rows, cone_refused_by}
+use Rattle.cones.proofs.Theorems.Cones.Exactly.{FirstBy, OutAlone, BeyondAlone, cone-rows, cone_refused_by}
 use Rattle.station.specs.Record.Exactly.{NoWhite, FactorsOut}
 use Rattle.station.specs.Record.Exactly.Accepting.{inside_of, outside_of, Whites, white_none, white_one, whites}
 use Rattle.delivery.specs.Sorted.{is_shaped, Shaped, are_factors, delivered}
@@ -24,7 +24,7 @@ use Rattle.calls.specs.Calls.Numbers.{is_one_of, OneOf}
 use Rattle.calls.specs.Exactly.{WrongCount, of_count, of_room, of_second, of_third, SomeFirst}
 use Rattle.calls.specs.Exactly.{ConeNotFinite, ConeOut, ConeBeyond, SortRows, RefusedCone}
 use Rattle.calls.specs.Exactly.First.{Rule, rule, First, here, later, Same, more, first_same}
-use Rattle.calls.specs.Exactly.Rows.{row, row_zero}
+use Rattle.calls.proofs.Theorems.Exactly.Rows.{row, row_zero}
 
 -- ---- 11
 

@@ -12,7 +12,7 @@ use Rattle.colour.specs.declared.placed.Placed.TheVariants.{At, Refused}
 use Rattle.colour.specs.declared.placed.Reading.{Reading}
 use Rattle.colour.specs.declared.white.White.{White}
 use Rattle.cones.specs.InTurn.{denied, refused}
-use Rattle.cones.specs.InTurn.Exactly.{IsTaken, is_taken, FirstRefused, refused_exactly}
+use Rattle.cones.proofs.Theorems.InTurn.Exactly.{IsTaken, is_taken, FirstRefused, refused_exactly}
 use Rattle.cones.specs.Cones.{no_reading, placed_turn, turn_in, cones_in}
 
 module _ (w : White) where

@@ -11,9 +11,9 @@ use Rattle.station.specs.Record.Back.{zeros-empty}
 use Rattle.station.specs.Runs.{left, left_by, last_accepted, fresh}
 use Rattle.station.specs.Runs.Laws.{run_left, AllValid, none, more, run_holds}
 use Rattle.calls.specs.Outcome.{loaded, judged_by, judge_faults}
-use Rattle.calls.specs.Outcome.Load.{loaded-valid}
+use Rattle.calls.proofs.Theorems.Outcome.Load.{loaded-valid}
 use Rattle.calls.specs.Calls.{Answer, Gives, load_call, judge_call}
-use Rattle.calls.specs.Calls.Laws.{load-left}
+use Rattle.calls.proofs.Theorems.Calls.Laws.{load-left}
 use Rattle.calls.specs.Runs.{Call, load, judge, ticket, slice_after, loads, AsFresh}
 
 slice-left : (xs : List ℕ) (cs : List Call) → slice_after xs cs ≡ left_by xs (loads cs)

@@ -17,13 +17,13 @@ use Rattle.station.specs.Record.Exactly.{NoFormula, NoWhite, FactorsOut, Toleran
 use Rattle.station.specs.Record.Exactly.Accepting.{Named, no_formula_lem, no_white_lem, are, names, accepting}
 use Rattle.calls.specs.Outcome.{loaded}
 use Rattle.calls.specs.Outcome.Each.{load_each}
-use Rattle.calls.specs.Outcome.Load.{load-number, load-room}
+use Rattle.calls.proofs.Theorems.Outcome.Load.{load-number, load-room}
 use Rattle.calls.specs.Calls.{length_fault, load_call}
 use Rattle.calls.specs.Calls.Numbers.{OneOf, load_never_7_or_9}
 use Rattle.calls.specs.Exactly.{BeyondIn, wrong_load, LoadRows, LoadByValue, LoadByCall}
-use Rattle.calls.specs.Exactly.Rules.{same, reading_first, accept_first}
+use Rattle.calls.proofs.Theorems.Exactly.Rules.{same, reading_first, accept_first}
 use Rattle.calls.specs.Exactly.First.{Rule, rule, First, here, later, Same, more, first_same, first_then}
-use Rattle.calls.specs.Exactly.Rows.{none_more, none_split, AnyOf, rows_of, row, row_before, row_zero}
+use Rattle.calls.proofs.Theorems.Exactly.Rows.{none_more, none_split, AnyOf, rows_of, row, row_before, row_zero}
 
 abbrev OfValue : ℕ → Type 0
 OfValue n = OneOf n (0 ∷ 1 ∷ 2 ∷ 3 ∷ 4 ∷ 5 ∷ 6 ∷ 8 ∷ [])

@@ -15,9 +15,9 @@ use Rattle.standard.specs.declared.judge.Outcome.{Outcome}
 use Rattle.standard.specs.declared.judge.Outcome.TheVariants.{Judged}
 use Rattle.station.specs.Record.{decode}
 use Rattle.calls.specs.Outcome.{loaded, judged_by, ticket_outcome}
-use Rattle.calls.specs.Outcome.Load.{loaded-valid}
-use Rattle.calls.specs.Outcome.Judge.{judged-said}
-use Rattle.calls.specs.Outcome.Ticket.{ticket-said}
+use Rattle.calls.proofs.Theorems.Outcome.Load.{loaded-valid}
+use Rattle.calls.proofs.Theorems.Outcome.Judge.{judged-said}
+use Rattle.calls.proofs.Theorems.Outcome.Ticket.{ticket-said}
 use Rattle.calls.specs.Line.{ticket_answer}
 
 pub load-exact :

@@ -25,9 +25,9 @@ use Rattle.station.specs.Record.Laws.{stores}
 use Rattle.station.specs.Record.Back.{decode-encode, decode-stands, decode-only}
 use Rattle.station.specs.declared.Station.TheVariants.{Holds}
 use Rattle.calls.specs.Outcome.{loaded}
-use Rattle.calls.specs.Outcome.Load.{load_some, loaded-valid, LoadOf, accepted-load}
+use Rattle.calls.proofs.Theorems.Outcome.Load.{load_some, loaded-valid, LoadOf, accepted-load}
 use Rattle.calls.specs.Calls.{Answer, Gives, load_call}
-use Rattle.calls.specs.Calls.Laws.{load-call-refused, load-call-stored, load-call-other}
+use Rattle.calls.proofs.Theorems.Calls.Laws.{load-call-refused, load-call-stored, load-call-other}
 
 -- ---- what a load comes to
 

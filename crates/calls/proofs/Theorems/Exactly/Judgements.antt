@@ -18,13 +18,13 @@ use Rattle.station.specs.declared.Station.{Station}
 use Rattle.station.specs.declared.Station.TheVariants.{Empty, Holds}
 use Rattle.calls.specs.Outcome.{judged_by, judge_faults}
 use Rattle.calls.specs.Outcome.Each.{judge_each}
-use Rattle.calls.specs.Outcome.Judge.{judge-number, judge-room}
+use Rattle.calls.proofs.Theorems.Outcome.Judge.{judge-number, judge-room}
 use Rattle.calls.specs.Calls.{room_fault, judge_call}
 use Rattle.calls.specs.Calls.Numbers.{OneOf, judge_never_1_to_4_or_7}
 use Rattle.calls.specs.Exactly.{BeyondHeld, RoomShort, JudgeRows, JudgeByValue, JudgeByCall}
-use Rattle.calls.specs.Exactly.Rules.{same, reading_first, room_first}
+use Rattle.calls.proofs.Theorems.Exactly.Rules.{same, reading_first, room_first}
 use Rattle.calls.specs.Exactly.First.{Rule, rule, First, here, later, Same, more, first_same, first_then}
-use Rattle.calls.specs.Exactly.Rows.{AnyOf, rows_of, row, row_before, row_zero}
+use Rattle.calls.proofs.Theorems.Exactly.Rows.{AnyOf, rows_of, row, row_before, row_zero}
 
 abbrev OfValue : ℕ → Type 0
 OfValue n = OneOf n (0 ∷ 5 ∷ 6 ∷ 8 ∷ 9 ∷ [])

@@ -14,9 +14,9 @@ use Rattle.standard.specs.Figures.{specimen_answer}
 use Rattle.standard.specs.declared.judge.Outcome.TheVariants.{Refused}
 use Rattle.calls.specs.Outcome.{ticket_outcome}
 use Rattle.calls.specs.Outcome.Each.{right_each}
-use Rattle.calls.specs.Outcome.Ticket.{ticket-number}
+use Rattle.calls.proofs.Theorems.Outcome.Ticket.{ticket-number}
 use Rattle.calls.specs.Line.{ticket_answer}
-use Rattle.calls.specs.Exactly.Refused.{specimen-answers}
+use Rattle.calls.proofs.Theorems.Exactly.Refused.{specimen-answers}
 
 -- ---- only a wrong text gives 7
 

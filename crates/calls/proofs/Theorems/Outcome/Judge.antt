@@ -19,7 +19,7 @@ use Rattle.station.specs.Record.{decode}
 use Rattle.station.specs.Record.Back.{decode-stands}
 use Rattle.station.specs.declared.Station.{Station}
 use Rattle.station.specs.declared.Station.TheVariants.{Empty, Holds}
-use Rattle.calls.specs.Outcome.Load.{placed_some}
+use Rattle.calls.proofs.Theorems.Outcome.Load.{placed_some}
 use Rattle.calls.specs.Outcome.{judged_by, judge_faults}
 
 -- each way out

@@ -23,8 +23,8 @@ use Rattle.standard.specs.declared.accept.SettingsOf.TheVariants.{Are}
 use Rattle.station.specs.Record.{decode, zeros}
 use Rattle.calls.specs.Outcome.{loaded, judged_by, ticket_outcome}
 use Rattle.calls.specs.Calls.{load_call, judge_call, ticket_call}
-use Rattle.calls.specs.Calls.Every.{as_lab, place_back}
-use Rattle.calls.specs.Calls.Ticket.{BothSay, once_loaded, once_stored, ticket_does_both, ticket_call_does_both}
+use Rattle.calls.proofs.Theorems.Calls.Every.{as_lab, place_back}
+use Rattle.calls.proofs.Theorems.Calls.Ticket.{BothSay, once_loaded, once_stored, ticket_does_both, ticket_call_does_both}
 
 -- ---- readings that have exactly the values of the ticket's
 

@@ -24,10 +24,10 @@ use Rattle.station.specs.Record.Back.{length-zeros, decode-encode}
 use Rattle.station.specs.declared.Station.{Station}
 use Rattle.station.specs.declared.Station.TheVariants.{Holds}
 use Rattle.calls.specs.Outcome.{loaded, judged_by, judged_after, ticket_outcome}
-use Rattle.calls.specs.Outcome.Load.{load_some, loaded-valid, accepted-load}
+use Rattle.calls.proofs.Theorems.Outcome.Load.{load_some, loaded-valid, accepted-load}
 use Rattle.calls.specs.Calls.{Answer, Gives, load_call, judge_call, ticket_call, reported}
-use Rattle.calls.specs.Calls.Laws.{load-call-refused, reported-refused, judge_call_is, ticket_call_is}
-use Rattle.calls.specs.Calls.Every.{load_gives}
+use Rattle.calls.proofs.Theorems.Calls.Laws.{load-call-refused, reported-refused, judge_call_is, ticket_call_is}
+use Rattle.calls.proofs.Theorems.Calls.Every.{load_gives}
 pub mod Said
 
 -- ---- what it is to do both

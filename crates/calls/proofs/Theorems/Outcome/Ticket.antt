@@ -27,7 +27,7 @@ use Rattle.standard.specs.declared.accept.Acceptance.TheVariants as A
 use Rattle.standard.specs.declared.judge.Judgement.{Judgement}
 use Rattle.standard.specs.declared.judge.Outcome.{Outcome}
 use Rattle.standard.specs.declared.judge.Outcome.TheVariants.{Refused, Judged}
-use Rattle.calls.specs.Outcome.Judge.{outcome_some}
+use Rattle.calls.proofs.Theorems.Outcome.Judge.{outcome_some}
 use Rattle.calls.specs.Outcome.{judged_after, ticket_outcome, ticket_faults}
 
 -- a written reading that is refused has a number

@@ -1,0 +1,2 @@
+-- Theorems on `specs/Line.antt`.
+pub mod Laws

@@ -1,0 +1,4 @@
+-- Theorems on `specs/Outcome.antt`.
+pub mod Judge
+pub mod Load
+pub mod Ticket

@@ -1,0 +1,2 @@
+-- Theorems on `specs/Runs.antt`.
+pub mod Laws

@@ -1,0 +1,2 @@
+-- theorems on the definitions of specs/
+pub mod Theorems
