@@ -117,6 +117,7 @@ fn verdict_number(x: Verdict) -> u32
     }
 }
 
+#[tactic(auto, unfolding(crate::specs::Answers::words_of))]
 fn words_of(n: Named) -> Words
     ensures { result ≡ words_of n }
 {
