@@ -9,10 +9,7 @@ use Rattle.reading.specs.Reading.{range_of, is_within}
 use Rattle.reading.specs.declared.quantity.Quantity.TheVariants.{Lightness, Opponent}
 use Rattle.colour.specs.declared.white.TristimulusValues.{TristimulusValues}
 use Rattle.colour.specs.declared.conversion.GridColour.{GridColour}
-pub mod Laws
 pub mod Ranges
-pub mod Places
-pub mod Cases
 
 -- a colour in units of 2 ^ -n
 pub record Lab : Type 0 where

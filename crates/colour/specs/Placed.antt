@@ -19,8 +19,6 @@ use Rattle.colour.specs.declared.placed.Placed.TheVariants.{At, Refused}
 use Rattle.colour.specs.White.{white_of}
 use Rattle.colour.specs.Conversion.{bs6923, convert, grid_colour}
 pub mod Ranges
-pub mod Ways
-pub mod Laws
 pub mod Same
 pub mod Exactly
 

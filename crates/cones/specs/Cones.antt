@@ -13,7 +13,6 @@ use Rattle.cones.specs.declared.Kind.{Kind}
 use Rattle.cones.specs.declared.Kind.TheVariants.{Xyz, Lab}
 use Rattle.cones.specs.Zip.{zip}
 use Rattle.cones.specs.InTurn.{Turn, taken, denied, Turns, whole, refused, in_turn}
-pub mod Laws
 pub mod Exactly
 
 abbrev pub reading_of : Kind → (x y z : Float) → Reading

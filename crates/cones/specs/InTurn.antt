@@ -3,8 +3,6 @@
 -- its values. `InTurn/Cases.antt` has the paper's own words, `InTurn/Exactly.antt` says which answer it is,
 -- `InTurn/Laws.antt` has what a loop goes by. Assumes nothing.
 use Rattle.std.specs.Prelude.{List, [], ◌∷◌, ◌++◌, ℕ, suc}
-pub mod Cases
-pub mod Laws
 pub mod Exactly
 
 -- one element's turn: it is taken with a value, or refused with a number

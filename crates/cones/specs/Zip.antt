@@ -4,7 +4,7 @@ use Rattle.std.proofs.Math.Path.{refl, ap}
 use mathlib.Core.List.{List, [], ◌∷◌}
 use Prim.Native.Nat.{ℕ, zero, suc, ◌≤◌, ◌<◌}
 use Rattle.std.proofs.Common.{le_of_suc-le-suc, not-suc-le-zero, arith, eqb-true, eq-eqb}
-use Rattle.colour.specs.Conversion.Laws.{both_true}
+use Rattle.colour.proofs.Theorems.Conversion.Laws.{both_true}
 
 -- three lists of one length
 pub record Even {A : Type 0} (xs ys zs : List A) : Type 0 where

@@ -7,9 +7,6 @@ use Rattle.reading.specs.declared.grid.Grid.{Grid}
 use Rattle.colour.specs.declared.conversion.GridColour.{GridColour}
 use Rattle.sheet.specs.Sheet.{sheet}
 use Rattle.sheet.specs.declared.formula.Formula.TheVariants.{CMC}
-pub mod Cases
-pub mod Laws
-pub mod Facts
 
 -- one coordinate of each cone, in units of the grid
 abbrev pub units_of : (GridColour → Grid) → List GridColour → List ℤ

@@ -2,7 +2,6 @@
 -- a loop goes by. Assumes nothing.
 use Rattle.std.specs.Prelude.{cond, List, [], ◌∷◌, ℕ, suc, ltb}
 use Rattle.delivery.specs.declared.farthest.Far.{Far}
-pub mod Laws
 
 -- of two that are as far, the one before
 unfoldable pub farther_of : Far → (d i : ℕ) → Far

@@ -9,7 +9,6 @@ use Rattle.cones.specs.Zip.{Even}
 use Rattle.delivery.specs.declared.farthest.Far.{Far}
 use Rattle.delivery.specs.Farthest.{farthest}
 use Rattle.delivery.specs.Written.{written}
-pub mod Laws
 
 -- a delivery of which no cone is refused, its colours cs and a mean, and a slice with an entry for each
 pub record Room (l c : ℕ) (M : GridColour) (xs ys zs : List Float) (cs : List GridColour) (de : List Float) : Type 0

@@ -19,10 +19,6 @@ use Rattle.delivery.specs.declared.sorted.Sorted.{Sorted}
 use Rattle.delivery.specs.Delivery.{mean_colour, differences}
 use Rattle.delivery.specs.Farthest.{farthest}
 use Rattle.delivery.specs.Written.{written}
-pub mod Laws
-pub mod Ways
-pub mod Exact
-pub mod Facts
 
 -- ---- refusals: 11, 2, 3 for l, 3 for c, then each cone in turn
 

@@ -10,7 +10,6 @@ use Rattle.delivery.specs.declared.mean.Sums.{Sums}
 use Rattle.delivery.specs.declared.mean.Summed.{Summed}
 use Rattle.delivery.specs.declared.mean.Summed.TheVariants.{Of, Refused}
 use Rattle.delivery.specs.Delivery.{units_of}
-pub mod Laws
 
 -- each at most m in magnitude
 pub record AtMost (m : ℕ) (s : Sums) : Type 0 where

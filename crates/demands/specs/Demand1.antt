@@ -18,11 +18,11 @@ use Rattle.cones.specs.Cones.{readings_of}
 use Rattle.cones.specs.declared.Kind.{Kind}
 use Rattle.cones.specs.declared.Kind.TheVariants as K
 use Rattle.delivery.specs.Sorted.{is_shaped, refused_with, sort_call, Sorts}
-use Rattle.delivery.specs.Sorted.Laws.{answer-number, answer-cone, refusal-kept}
+use Rattle.delivery.proofs.Theorems.Sorted.Laws.{answer-number, answer-cone, refusal-kept}
 use Rattle.delivery.specs.declared.sorted.Sorted.{Sorted}
 use Rattle.ticket.specs.Ticket.{ticket_of}
 use Rattle.ticket.specs.Ticket.Grammar.{WrongAt}
-use Rattle.ticket.specs.Ticket.Grammar.Wrong.{wrong_exactly}
+use Rattle.ticket.proofs.Theorems.Ticket.Grammar.Wrong.{wrong_exactly}
 use Rattle.standard.specs.Acceptance.{settings_of}
 use Rattle.standard.specs.Figures.{no_reference, reference_answer, no_specimen, specimen_answer}
 use Rattle.standard.specs.declared.figures.Named.TheVariants.{Nothing}
@@ -98,7 +98,7 @@ module _ (xs : List ℕ) (formula white l c tolerance : ℕ) {n : ℕ} {ys : Lis
   pub load_one_of :
       (r : Reading) → Gives (load_call xs formula white l c tolerance r) n ys →
       OneOf n (0 ∷ 1 ∷ 2 ∷ 3 ∷ 4 ∷ 5 ∷ 6 ∷ 8 ∷ 10 ∷ [])
-  load_one_of r g = (load_given r g).0.one_of_lem
+  load_one_of r g = (load_given r g).0.one_of
 
   -- `shade_load_xyz`
   pub shade_load_xyz_lem :
@@ -122,7 +122,7 @@ module _ (xs : List ℕ) (room : List ℕ) (column : ℕ) {n : ℕ} {ys : List �
   -- its number is one of these
   pub judge_one_of :
       (r : Reading) → Gives (judge_call xs r room column) n ys → OneOf n (0 ∷ 5 ∷ 6 ∷ 8 ∷ 9 ∷ 10 ∷ [])
-  judge_one_of r g = (judge-given r g).0.one_of_lem
+  judge_one_of r g = (judge-given r g).0.one_of
 
   -- `shade_judge_xyz`
   pub shade_judge_xyz_lem :
@@ -147,7 +147,7 @@ shade_ticket_lem text room column g =
 pub ticket_one_of :
     (text room : List ℕ) (column : ℕ) {n : ℕ} {ys : List ℕ} → Gives (ticket_call text room column) n ys →
     OneOf n (0 ∷ 3 ∷ 4 ∷ 6 ∷ 7 ∷ 8 ∷ 10 ∷ [])
-ticket_one_of text room column g = (shade_ticket_lem text room column g).0.one_of_lem
+ticket_one_of text room column g = (shade_ticket_lem text room column g).0.one_of
 
 -- ---- THE STANDARD IN FORCE STAYS: after a refused call of any kind the slice xs is as it was, and holds what it held
 

@@ -25,30 +25,30 @@ use Rattle.sheet.specs.declared.formula.Formula.{Formula}
 use Rattle.sheet.specs.declared.formula.Formula.TheVariants.{CMC}
 use Rattle.sheet.specs.declared.settings.Settings.{Settings}
 use Rattle.names.specs.Names.{lightness_name, chroma_name, hue_name}
-use Rattle.names.specs.Names.Withheld.{Achromatic}
+use Rattle.names.proofs.Theorems.Names.Withheld.{Achromatic}
 use Rattle.cones.specs.Cones.{readings_of, no_reading}
 use Rattle.cones.specs.declared.Kind.{Kind}
 use Rattle.delivery.specs.Sorted.{Sorts}
-use Rattle.delivery.specs.Sorted.Exact.{Delivery, HandedBack as DeliveryHandedBack, sorted_by_the_sheet}
-use Rattle.delivery.specs.Sorted.Exact.{mean, cone, DE, mean_in_range, cone-placed}
+use Rattle.delivery.proofs.Theorems.Sorted.Exact.{Delivery, HandedBack as DeliveryHandedBack, sorted_by_the_sheet}
+use Rattle.delivery.proofs.Theorems.Sorted.Exact.{mean, cone, DE, mean_in_range, cone-placed}
 use Rattle.delivery.specs.Delivery.{difference_from}
 use Rattle.delivery.specs.declared.sorted.Sorted.{Sorted}
 use Rattle.text.specs.Ascii.{ascii}
 use Rattle.text.specs.Bytes.{starts_with}
 use Rattle.ticket.specs.Ticket.{ticket_of}
-use Rattle.ticket.specs.Ticket.AsWritten.{without, written, right_as_written}
+use Rattle.ticket.proofs.Theorems.Ticket.AsWritten.{without, written, right_as_written}
 use Rattle.ticket.specs.Ticket.Grammar.{Consists}
-use Rattle.ticket.specs.Ticket.Grammar.Right.{right_exactly}
+use Rattle.ticket.proofs.Theorems.Ticket.Grammar.Right.{right_exactly}
 use Rattle.ticket.specs.declared.lines.Ticket.{Ticket}
 use Rattle.ticket.specs.declared.lines.Parsed.{Parsed}
 use Rattle.ticket.specs.declared.lines.Parsed.TheVariants.{Right, Wrong}
 use Rattle.standard.specs.Acceptance.{settings_of}
-use Rattle.standard.specs.Acceptance.Laws.{accepted_made, valid-accepted}
+use Rattle.standard.proofs.Theorems.Acceptance.Laws.{accepted_made, valid-accepted}
 use Rattle.standard.specs.Judgement.{judgement_of, outcome}
-use Rattle.standard.specs.Judgement.Laws.{verdict_is}
-use Rattle.standard.specs.Judgement.Withheld.{judgement-withheld}
+use Rattle.standard.proofs.Theorems.Judgement.Laws.{verdict_is}
+use Rattle.standard.proofs.Theorems.Judgement.Withheld.{judgement-withheld}
 use Rattle.standard.specs.Figures.{reference_answer, specimen_answer}
-use Rattle.standard.specs.Figures.Exact.{ReferenceExact, SpecimenExact}
+use Rattle.standard.proofs.Theorems.Figures.Exact.{ReferenceExact, SpecimenExact}
 use Rattle.standard.specs.declared.accept.Standard.{Standard}
 use Rattle.standard.specs.declared.accept.SettingsOf.TheVariants.{Are}
 use Rattle.standard.specs.declared.accept.Acceptance.TheVariants.{Accepted}

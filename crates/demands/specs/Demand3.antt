@@ -23,10 +23,10 @@ use Rattle.sheet.specs.declared.verdict.Verdict.TheVariants.{Near, Pass, Fail}
 use Rattle.finer.specs.Finer.{VerdictKept, no_finer_sheet_changes_a_verdict}
 use Rattle.cones.specs.declared.Kind.{Kind}
 use Rattle.delivery.specs.Delivery.{difference_from}
-use Rattle.delivery.specs.Sorted.Exact.{Delivery, mean, cone, DE as DE-of, cone_on_grid, mean_in_range}
+use Rattle.delivery.proofs.Theorems.Sorted.Exact.{Delivery, mean, cone, DE as DE-of, cone_on_grid, mean_in_range}
 use Rattle.ticket.specs.Ticket.{ticket_of}
 use Rattle.standard.specs.Judgement.{judgement_of, Specimen}
-use Rattle.standard.specs.Judgement.Laws.{verdict_is}
+use Rattle.standard.proofs.Theorems.Judgement.Laws.{verdict_is}
 use Rattle.standard.specs.declared.judge.Judgement.{Judgement}
 use Rattle.standard.specs.declared.judge.Outcome.TheVariants.{Judged}
 use Rattle.station.specs.Record.{decode}

@@ -14,9 +14,9 @@ use Rattle.report.specs.Report.{report_text}
 use Rattle.report.specs.Report.Longest.{Printable, report-length-le}
 use Rattle.report.specs.Write.{has_room}
 use Rattle.standard.specs.Refusals.{Fault, refusal}
-use Rattle.standard.specs.Refusals.Laws.{Each, more, refusal_keeps}
+use Rattle.standard.proofs.Theorems.Refusals.Laws.{Each, more, refusal_keeps}
 use Rattle.standard.specs.Judgement.{judgement_of, Specimen}
-use Rattle.standard.specs.Judgement.Laws.{in_range}
+use Rattle.standard.proofs.Theorems.Judgement.Laws.{in_range}
 use Rattle.standard.specs.declared.accept.Standard.{Standard}
 use Rattle.standard.specs.declared.judge.Judgement.{Judgement}
 use Rattle.standard.specs.declared.judge.Outcome.{Outcome}

@@ -7,7 +7,7 @@ use Rattle.std.proofs.Common.{mul-le-mul_right, mul-pos, arith}
 use Rattle.std.proofs.Math.Decide.{dec_le}
 use Rattle.rounding.specs.Fraction.{LooseFraction}
 use Rattle.rounding.specs.Root.{LooseRoot}
-use Rattle.rounding.specs.Root.Laws.{square-low, square-high}
+use Rattle.rounding.proofs.Theorems.Root.Laws.{square-low, square-high}
 use Rattle.sheet.specs.Settings.{Factor}
 use Rattle.finer.specs.Products.{le_of_mul_le, square_le, le_of_square_le}
 use Rattle.finer.specs.Loose.{unit, Data, Quantities, LooseDifferences}

@@ -16,8 +16,8 @@ use Rattle.colour.specs.declared.conversion.GridColour.{GridColour}
 use Rattle.sheet.specs.Settings.{Tolerance}
 use Rattle.sheet.specs.Ranges.{InRange}
 use Rattle.sheet.specs.Sheet.{sheet, verdict}
-use Rattle.sheet.specs.Sheet.Laws.{abs-change, compared-near}
-use Rattle.sheet.specs.Sheet.Facts.{within_of_near, below_of_pass, above_of_fail}
+use Rattle.sheet.proofs.Theorems.Sheet.Laws.{abs-change, compared-near}
+use Rattle.sheet.proofs.Theorems.Sheet.Facts.{within_of_near, below_of_pass, above_of_fail}
 use Rattle.sheet.specs.declared.formula.Formula.{Formula}
 use Rattle.sheet.specs.declared.verdict.Verdict.TheVariants.{Near, Pass, Fail}
 use Rattle.finer.specs.Loose.Lines.{pow-is-unit}

@@ -6,7 +6,7 @@ use Rattle.std.proofs.Common.{mul-le-mul_right, arith, pow_pos}
 use Rattle.colour.specs.declared.conversion.GridColour.{GridColour}
 use Rattle.sheet.specs.Settings.{Factor}
 use Rattle.sheet.specs.Sheet.{sheet}
-use Rattle.sheet.specs.Sheet.Bounds.{factor_under-fits}
+use Rattle.sheet.proofs.Theorems.Sheet.Bounds.{factor_under-fits}
 use Rattle.sheet.specs.declared.formula.Formula.{Formula}
 use Rattle.finer.specs.Loose.{unit, Data, Quantities, Loose}
 use Rattle.finer.specs.Loose.Sheets.{data_of, quantities-DE, times-DE}

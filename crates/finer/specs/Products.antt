@@ -3,9 +3,9 @@
 use Rattle.std.specs.Prelude.{◌≡◌, ℕ, ◌+◌, ◌*◌, ◌≤◌, ◌<◌}
 use Rattle.std.proofs.Common.{mul-le-mul, mul-pos, le_of_mul-le-mul_right, arith}
 use Rattle.rounding.specs.Fraction.{LooseFraction, IsFraction, fraction_grown}
-use Rattle.rounding.specs.Finer.{exact_finer, fraction-times, root-times}
+use Rattle.rounding.proofs.Theorems.Finer.{exact_finer, fraction-times, root-times}
 use Rattle.rounding.specs.Root.{LooseRoot, IsRoot}
-use Rattle.rounding.specs.Root.Laws.{lt_of_powers, sq}
+use Rattle.rounding.proofs.Theorems.Root.Laws.{lt_of_powers, sq}
 
 -- ---- 1.1: a factor taken off, named so that `omega` may prove the product; 1.2: squares
 

@@ -11,7 +11,7 @@ use Rattle.names.specs.declared.Hue.{Hue}
 use Rattle.text.specs.Ascii.{ascii}
 use Rattle.text.specs.Decimal.{decimal_text}
 use Rattle.text.specs.Names.{formula_name, white_name}
-use Rattle.text.specs.One.{PutsOne, puts_one, LengthOne, length_one}
+use Rattle.text.proofs.Theorems.One.{PutsOne, puts_one, LengthOne, length_one}
 use Rattle.text.specs.Put.{line}
 use Rattle.text.specs.declared.decimal.Shown.{Shown}
 use Rattle.lines.specs.Lines.{lightness_word, chroma_word, hue_word, verdict_word, unless_withheld}

@@ -14,9 +14,6 @@ use Rattle.names.specs.declared.Chroma as Chroma
 use Rattle.names.specs.declared.Axis.{Axis}
 use Rattle.names.specs.declared.Axis.TheVariants.{Redder, Yellower, Greener, Bluer}
 use Rattle.names.specs.declared.Hue as Hue
-pub mod Cases
-pub mod Laws
-pub mod Withheld
 
 -- ---- lightness and chroma
 

@@ -10,7 +10,7 @@ use native.Mathlib.Omega.{arith}
 use lib.Count.{count_leading_zeros, leading_top}
 use lib.Pow.{pow-add, pow_mono, pow_pos, shl_exact, shr_lt, shr_le, shr-shr, split, field}
 use Rattle.rounding.specs.Root.{root_of, IsRoot, root_law, mul-pow, one_pow}
-use Rattle.rounding.specs.Root.Laws.{root-lt, root_unique, pow-mul}
+use Rattle.rounding.proofs.Theorems.Root.Laws.{root-lt, root_unique, pow-mul}
 use Rattle.rounding.specs.Fraction.{le-div}
 
 -- ---- what is known between two digits

@@ -3,7 +3,6 @@
 use Rattle.std.specs.Prelude.{List, [], ◌∷◌, ℕ, ℤ, pos, ◌+ℤ◌, length}
 use Rattle.rounding.specs.Signed.{∣◌∣, minus}
 use Rattle.rounding.specs.Nearest.{rounded}
-pub mod Laws
 
 unfoldable pub sum : List ℤ → ℤ
 sum [] = pos 0

@@ -2,7 +2,6 @@
 -- `Nearest/Laws.antt`. Assumes nothing.
 use Rattle.std.specs.Prelude.{Bool, ℕ, ◌+◌, ◌-◌, ◌*◌, ◌/◌, ℤ}
 use Rattle.rounding.specs.Signed.{signed}
-pub mod Laws
 
 -- the whole number nearest to a / c, a tie upwards: a / c + 1/2, rounded down
 abbrev pub nearest_up : (a c : ℕ) → ℕ

@@ -4,7 +4,7 @@ use Rattle.std.specs.Prelude.{List, ℕ, Float}
 use Rattle.colour.specs.declared.placed.Reading.TheVariants.{Xyz, Lab}
 use Rattle.cones.specs.declared.Kind.TheVariants as K
 use Rattle.delivery.specs.Sorted.{Sorts}
-use Rattle.delivery.specs.Sorted.Laws.{AdmitsOne as SortAdmitsOne, sorts_one}
+use Rattle.delivery.proofs.Theorems.Sorted.Laws.{AdmitsOne as SortAdmitsOne, sorts_one}
 use Rattle.calls.specs.Calls.{AdmitsOne, gives_one, load_call, judge_call, ticket_call}
 
 module _ (station : List ℕ) (formula white l c tolerance : ℕ) where

@@ -7,7 +7,7 @@ use lib.IntN.{ℤ, ◌+ℤ◌, ◌-ℤ◌, ◌*ℤ◌}
 use mir.Syntax.{w64}
 use mir.Val.{SFits, to_z, of_z}
 use mir.Facts.{to_z-of_z}
-use Rattle.rounding.specs.Signed.Laws.{abs-add-le, abs-sub-le, abs-mul, fits_of_abs}
+use Rattle.rounding.proofs.Theorems.Signed.Laws.{abs-add-le, abs-sub-le, abs-mul, fits_of_abs}
 use Rattle.rounding.specs.Signed.{∣◌∣}
 use Rattle.colour.specs.declared.conversion.GridColour.{GridColour}
 use Rattle.colour.specs.Conversion.Ranges.{OnGrid}

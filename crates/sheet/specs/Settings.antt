@@ -4,7 +4,6 @@ use Rattle.sheet.specs.declared.formula.Formula.{Formula}
 use Rattle.sheet.specs.declared.formula.Formula.TheVariants.{CIELAB, CIE94, CMC}
 use Rattle.sheet.specs.declared.formula.NumberedFormula.{NumberedFormula}
 use Rattle.sheet.specs.declared.formula.NumberedFormula.TheVariants.{Is, Unknown}
-pub mod Laws
 
 -- ---- formulas by number
 

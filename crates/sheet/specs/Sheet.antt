@@ -27,12 +27,6 @@ use Rattle.sheet.specs.declared.scaled.Scaled.{Scaled}
 use Rattle.sheet.specs.declared.scaled.Scaled.TheVariants.{Cielab, Cie94, Cmc}
 use Rattle.sheet.specs.declared.verdict.Verdict.{Verdict}
 use Rattle.sheet.specs.declared.verdict.Verdict.TheVariants.{Near, Pass, Fail}
-pub mod Laws
-pub mod Bounds
-pub mod Facts
-pub mod Factors
-pub mod Apart
-pub mod Cases
 
 -- ---- lines 1 to 8
 

@@ -20,8 +20,6 @@ use Rattle.standard.specs.declared.accept.Acceptance.{Acceptance}
 use Rattle.standard.specs.declared.accept.Acceptance.TheVariants.{Refused, Accepted}
 use Rattle.standard.specs.Refusals.{Place, Fault, fault, refusal, at_formula, at_white, at_l, at_c, at_tolerance}
 use Rattle.standard.specs.Refusals.{at_reference}
-pub mod Numbers
-pub mod Laws
 
 -- ---- settings by the numbers of a load: 1, then 2, where a number names nothing
 

@@ -17,7 +17,6 @@ use Rattle.standard.specs.declared.figures.ReferenceAnswer.{ReferenceAnswer}
 use Rattle.standard.specs.declared.figures.SpecimenFigures.{SpecimenFigures}
 use Rattle.standard.specs.declared.figures.SpecimenAnswer.{SpecimenAnswer}
 use Rattle.standard.specs.declared.figures.Named.TheVariants.{Nothing, Names}
-pub mod Exact
 
 -- 0.0, which is every figure of a refused call
 abbrev pub zero : Float

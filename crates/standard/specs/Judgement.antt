@@ -13,8 +13,6 @@ use Rattle.standard.specs.declared.judge.Judgement.{Judgement}
 use Rattle.standard.specs.declared.judge.Outcome.{Outcome}
 use Rattle.standard.specs.declared.judge.Outcome.TheVariants.{Refused, Judged}
 use Rattle.standard.specs.Acceptance.{Valid, PlacedOn}
-pub mod Laws
-pub mod Withheld
 
 -- the sheet, the names and the verdict, all from the standard itself
 unfoldable pub judgement_of : Standard → (T : GridColour) → Judgement

@@ -1,7 +1,6 @@
 -- docs/SCOPE.md 8.2: the one order in which a call's faults are looked for. A call lists the faults that it can have,
 -- each at its place; the number of every call is `refusal` of its list. Assumes nothing.
 use Rattle.std.specs.Prelude.{Bool, cond, List, [], ◌∷◌, map, ℕ, eqb}
-pub mod Laws
 
 -- where a fault can be
 pub data Place : Type 0 where

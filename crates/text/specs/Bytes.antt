@@ -2,7 +2,6 @@
 -- Assumes nothing.
 use Rattle.std.specs.Prelude.{ℕ, suc, ◌+◌, Bool, true, false, cond, ◌&&◌, List, [], ◌∷◌, eqb, ltb, length, take, drop}
 pub mod Laws
-pub mod Parts
 
 -- where b first stands in s, or s's length
 unfoldable pub index_of : ℕ → List ℕ → ℕ

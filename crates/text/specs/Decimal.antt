@@ -6,10 +6,6 @@ use Rattle.rounding.specs.Nearest.{nearest_up}
 use Rattle.text.specs.Ascii.{ascii}
 use Rattle.text.specs.Put.{joined}
 use Rattle.text.specs.declared.decimal.Shown.{Shown}
-pub mod Cases
-pub mod Nearest
-pub mod Signed
-pub mod Laws
 
 -- m units, of which per_one make one, counted in units of 10 ^ -places: to the nearest, a tie upwards, as a reading's
 -- magnitude is. Every figure of a report is rounded here.

@@ -13,5 +13,3 @@ pub mod Bytes
 pub mod Number
 -- a text's lines
 pub mod Lines
--- any two outcomes that a contract admits are equal
-pub mod One

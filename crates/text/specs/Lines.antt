@@ -3,7 +3,6 @@
 use Rattle.std.specs.Prelude.{ℕ, zero, suc, Bool, true, false, cond, List, [], ◌∷◌, eqb}
 use Rattle.std.proofs.Math.Option.{Option, none, some}
 use Rattle.text.specs.Bytes.{starts_with}
-pub mod Laws
 
 -- a line without its LF; what stands after the last LF is a line too, one that lacks its LF
 pub data Line : Type 0 where

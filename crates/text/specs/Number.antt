@@ -6,7 +6,6 @@ use Rattle.text.specs.Ascii.{ascii}
 use Rattle.reading.specs.declared.decimal.Decimal.{Decimal}
 use Rattle.text.specs.Bytes.{has, before, after, starts_with}
 pub mod Laws
-pub mod Written
 
 -- the number that digits make, v standing before them
 unfoldable pub numeral : ℕ → List ℕ → Option ℕ

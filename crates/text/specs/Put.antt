@@ -2,7 +2,6 @@
 -- Assumes nothing.
 use Rattle.std.specs.Prelude.{◌≡◌, List, [], ◌∷◌, ◌++◌, ℕ, ◌+◌, ◌≤◌, length, take, drop}
 use Rattle.text.specs.Ascii.{ascii}
-pub mod Laws
 
 -- xs with s for what stood there from index at on
 unfoldable pub put_at : List ℕ → ℕ → List ℕ → List ℕ

@@ -24,9 +24,6 @@ use Rattle.ticket.specs.declared.lines.Parsed.TheVariants.{Right, Wrong}
 pub mod Laws
 pub mod Grammar
 pub mod Print
-pub mod Theorems
-pub mod AsWritten
-pub mod Cases
 
 -- ---- what a value says
 

@@ -7,7 +7,7 @@ use borrow.Author.Rules.{rules}
 use lib.IntN.{ℤ}
 use mir.Facts.{to_z-of_z}
 use Rattle.rounding.specs.Signed.{∣◌∣}
-use Rattle.rounding.specs.Signed.Laws.{zero_of_abs}
+use Rattle.rounding.proofs.Theorems.Signed.Laws.{zero_of_abs}
 use Rattle.angle.specs.Angle.{quadrant, hue_angle, degrees_ahead}
 use Rattle.angle.specs.Angle.Laws.{HasHue, degrees-lt, angle_along_a, angle_along_b, neutral_angle}
 use Rattle.angle.specs.Angle.Quadrants.{quadrant-lt}

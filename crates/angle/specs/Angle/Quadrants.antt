@@ -7,12 +7,12 @@ use Rattle.std.proofs.Math.Bool.{and-false}
 use Rattle.std.proofs.lemmas.Bool.{lt-leb}
 use Rattle.std.proofs.Math.IntN.{neg_ℤ-neg_ℤ}
 use Rattle.rounding.specs.Signed.{∣◌∣, square, minus}
-use Rattle.rounding.specs.Signed.Difference.{IsDiff, above, below, diff_same, diff_shift, diff_parts, diff_neg}
-use Rattle.rounding.specs.Signed.Difference.{diff_sub, diff_mul}
-use Rattle.rounding.specs.Signed.Laws.{abs_neg}
+use Rattle.rounding.proofs.Theorems.Signed.Difference.{IsDiff, above, below, diff_same, diff_shift, diff_parts, diff_neg}
+use Rattle.rounding.proofs.Theorems.Signed.Difference.{diff_sub, diff_mul}
+use Rattle.rounding.proofs.Theorems.Signed.Laws.{abs_neg}
 use Rattle.sheet.specs.Sheet.{cross}
 use Rattle.names.specs.Names.{Direction}
-use Rattle.names.specs.Names.Laws.{plus, not_minus}
+use Rattle.names.proofs.Theorems.Names.Laws.{plus, not_minus}
 use Rattle.angle.specs.Table.{cosine, sine}
 use Rattle.angle.specs.Angle.{quarter_turn, turned, vector, quadrant, reached_ahead}
 

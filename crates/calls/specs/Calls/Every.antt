@@ -3,7 +3,7 @@
 use Rattle.std.specs.Prelude.{◌≡◌, refl, Bool, true, false, List, ℕ, ◌<◌, eqb, length, get_or}
 use Rattle.std.proofs.Common.{sym, ap, ◌∙◌, arith, eq-eqb, eqb-true}
 use Rattle.reading.specs.Grid.{value_of}
-use Rattle.reading.specs.Reading.Laws.{lightness_back_and_read, opponent_back_and_read}
+use Rattle.reading.proofs.Theorems.Reading.Laws.{lightness_back_and_read, opponent_back_and_read}
 use Rattle.colour.specs.Conversion.Ranges.{OnGrid}
 use Rattle.colour.specs.Placed.{take, place}
 use Rattle.colour.specs.White.{number_of_white}
@@ -15,8 +15,8 @@ use Rattle.colour.specs.declared.white.White.{White}
 use Rattle.sheet.specs.Settings.{number_of_formula}
 use Rattle.sheet.specs.declared.settings.Settings.{Settings}
 use Rattle.standard.specs.Acceptance.{settings_of, Valid}
-use Rattle.standard.specs.Acceptance.Laws.{valid-accepted}
-use Rattle.standard.specs.Acceptance.Numbers.{settings_back}
+use Rattle.standard.proofs.Theorems.Acceptance.Laws.{valid-accepted}
+use Rattle.standard.proofs.Theorems.Acceptance.Numbers.{settings_back}
 use Rattle.standard.specs.declared.accept.Standard.{Standard}
 use Rattle.standard.specs.declared.accept.Acceptance.{Acceptance}
 use Rattle.standard.specs.declared.accept.Acceptance.TheVariants.{Refused, Accepted}

@@ -6,7 +6,7 @@ use Rattle.colour.specs.declared.placed.Reading.{Reading}
 use Rattle.ticket.specs.declared.lines.Parsed.{Parsed}
 use Rattle.standard.specs.Judgement.{judgement_of, Specimen}
 use Rattle.standard.specs.Figures.{reference_answer, specimen_answer}
-use Rattle.standard.specs.Figures.Exact.{ReferenceExact, reference-exact, SpecimenExact, specimen-exact}
+use Rattle.standard.proofs.Theorems.Figures.Exact.{ReferenceExact, reference-exact, SpecimenExact, specimen-exact}
 use Rattle.standard.specs.declared.accept.Standard.{Standard}
 use Rattle.standard.specs.declared.accept.SettingsOf.{SettingsOf}
 use Rattle.standard.specs.declared.accept.Acceptance.TheVariants.{Accepted}

@@ -12,7 +12,7 @@ use Rattle.ticket.specs.declared.lines.Parsed.{Parsed}
 use Rattle.report.specs.Report.{report_text}
 use Rattle.report.specs.Write.{has_room}
 use Rattle.standard.specs.Refusals.{Fault, at_room, number_at, first, refusal}
-use Rattle.standard.specs.Refusals.Laws.{first_zero, first_some, refusal-room}
+use Rattle.standard.proofs.Theorems.Refusals.Laws.{first_zero, first_some, refusal-room}
 use Rattle.standard.specs.Acceptance as Acceptance
 use Rattle.standard.specs.Acceptance.{settings_of}
 use Rattle.standard.specs.Judgement.{number_of}

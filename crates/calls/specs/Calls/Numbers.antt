@@ -4,7 +4,7 @@ use Rattle.std.specs.Prelude.{◌≡◌, refl, Bool, true, false, not, ◌||◌,
 use Rattle.colour.specs.declared.placed.Reading.{Reading}
 use Rattle.ticket.specs.Ticket.{ticket_of}
 use Rattle.report.specs.Write.{has_room}
-use Rattle.standard.specs.Refusals.Laws.{more, refusal_keeps}
+use Rattle.standard.proofs.Theorems.Refusals.Laws.{more, refusal_keeps}
 use Rattle.standard.specs.declared.judge.Outcome.{Outcome}
 use Rattle.standard.specs.declared.judge.Outcome.TheVariants.{Refused, Judged}
 use Rattle.station.specs.Record.{decode}

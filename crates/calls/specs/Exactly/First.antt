@@ -3,7 +3,7 @@ use Rattle.std.specs.Prelude.{◌≡◌, refl, Bool, true, false, ◌&&◌, not,
 use Rattle.std.proofs.Common.{sym, subst, true≢false}
 use Rattle.std.proofs.lemmas.Bool.{eqb-false}
 use Rattle.standard.specs.Refusals.{first}
-use Rattle.standard.specs.Refusals.Laws.{first_some}
+use Rattle.standard.proofs.Theorems.Refusals.Laws.{first_some}
 
 -- none of them holds
 abbrev pub NoneOf : List (Type 0) → Type 0

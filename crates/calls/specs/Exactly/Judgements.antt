@@ -4,12 +4,12 @@ use Rattle.std.proofs.Common.{subst, ◌∙◌}
 use Rattle.std.specs.Prelude.{false, List, [], ◌∷◌, ◌++◌, ◌↔◌, ℕ, eqb}
 use native.Mathlib.Omega.{arith}
 use Rattle.colour.specs.Placed.Exactly.{NotFinite, OutOfRange, Beyond}
-use Rattle.colour.specs.Placed.Exactly.Ways.{read}
+use Rattle.colour.proofs.Theorems.Placed.Exactly.Ways.{read}
 use Rattle.colour.specs.declared.placed.Reading.{Reading}
 use Rattle.standard.specs.Refusals.{first}
-use Rattle.standard.specs.Refusals.Laws.{refusal-room, refusal_keeps}
+use Rattle.standard.proofs.Theorems.Refusals.Laws.{refusal-room, refusal_keeps}
 use Rattle.standard.specs.Judgement.{number_of}
-use Rattle.standard.specs.Judgement.Laws.{outcome-number}
+use Rattle.standard.proofs.Theorems.Judgement.Laws.{outcome-number}
 use Rattle.standard.specs.declared.accept.Standard.{Standard}
 use Rattle.station.specs.Record.{decode}
 use Rattle.station.specs.Record.Exactly.{NoStandard}

@@ -4,13 +4,13 @@ use Rattle.std.proofs.Math.Path.{sym, ap}
 use Rattle.std.proofs.Common.{subst, ◌∙◌, eqb-true}
 use Rattle.std.proofs.lemmas.Bool.{eqb-false}
 use Rattle.colour.specs.Placed.Exactly.{NotFinite, OutOfRange, Beyond}
-use Rattle.colour.specs.Placed.Exactly.Ways.{read}
+use Rattle.colour.proofs.Theorems.Placed.Exactly.Ways.{read}
 use Rattle.colour.specs.White.{white_numbered}
 use Rattle.colour.specs.declared.placed.Reading.{Reading}
 use Rattle.colour.specs.declared.white.White.{White}
 use Rattle.colour.specs.declared.white.Numbered.TheVariants.{Is}
 use Rattle.standard.specs.Refusals.{first}
-use Rattle.standard.specs.Refusals.Laws.{refusal-room, refusal_keeps}
+use Rattle.standard.proofs.Theorems.Refusals.Laws.{refusal-room, refusal_keeps}
 use Rattle.standard.specs.Acceptance.{settings_of, number_of}
 use Rattle.standard.specs.declared.accept.SettingsOf.{SettingsOf}
 use Rattle.station.specs.Record.Exactly.{NoFormula, NoWhite, FactorsOut, ToleranceOut}

@@ -11,15 +11,15 @@ use Rattle.colour.specs.declared.white.White.{White}
 use Rattle.colour.specs.declared.white.Numbered.{Numbered}
 use Rattle.colour.specs.declared.white.Numbered.TheVariants as W
 use Rattle.sheet.specs.Settings.{within, is_factor}
-use Rattle.sheet.specs.Settings.Laws.{within_true, within_in}
+use Rattle.sheet.proofs.Theorems.Settings.Laws.{within_true, within_in}
 use Rattle.cones.specs.InTurn.{Turns, whole, refused, number_of, index_of}
 use Rattle.cones.specs.Cones.{cones_in}
 use Rattle.cones.specs.Cones.Exactly.{FirstBy, OutAlone, BeyondAlone, cone-rows, cone_refused_by}
 use Rattle.station.specs.Record.Exactly.{NoWhite, FactorsOut}
 use Rattle.station.specs.Record.Exactly.Accepting.{inside_of, outside_of, Whites, white_none, white_one, whites}
 use Rattle.delivery.specs.Sorted.{is_shaped, Shaped, are_factors, delivered}
-use Rattle.delivery.specs.Sorted.Laws.{shaped_of_test, test_of_shaped, factors_of_test, test_of_factors}
-use Rattle.delivery.specs.Sorted.Laws.{Comes, wrong-count, no_white_lem, wrong-factor, cones, comes}
+use Rattle.delivery.proofs.Theorems.Sorted.Laws.{shaped_of_test, test_of_shaped, factors_of_test, test_of_factors}
+use Rattle.delivery.proofs.Theorems.Sorted.Laws.{Comes, wrong-count, no_white_lem, wrong-factor, cones, comes}
 use Rattle.calls.specs.Calls.Numbers.{is_one_of, OneOf}
 use Rattle.calls.specs.Exactly.{WrongCount, of_count, of_room, of_second, of_third, SomeFirst}
 use Rattle.calls.specs.Exactly.{ConeNotFinite, ConeOut, ConeBeyond, SortRows, RefusedCone}

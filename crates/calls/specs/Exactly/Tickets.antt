@@ -4,15 +4,15 @@ use Rattle.std.proofs.Math.Path.{sym, ap}
 use Rattle.std.proofs.Common.{subst, ◌∙◌, arith}
 use Rattle.colour.specs.Placed.{place_written}
 use Rattle.colour.specs.Placed.Exactly.{WrittenOutOfRange, WrittenBeyond}
-use Rattle.colour.specs.Placed.Exactly.Ways.{read-written}
+use Rattle.colour.proofs.Theorems.Placed.Exactly.Ways.{read-written}
 use Rattle.ticket.specs.Ticket.{ticket_of}
-use Rattle.ticket.specs.Ticket.Grammar.Wrong.{wrong_exactly}
-use Rattle.ticket.specs.Ticket.Grammar.Right.{right_exactly}
+use Rattle.ticket.proofs.Theorems.Ticket.Grammar.Wrong.{wrong_exactly}
+use Rattle.ticket.proofs.Theorems.Ticket.Grammar.Right.{right_exactly}
 use Rattle.ticket.specs.declared.lines.Ticket.{Ticket}
 use Rattle.ticket.specs.declared.lines.Parsed.{Parsed}
 use Rattle.ticket.specs.declared.lines.Parsed.TheVariants.{Right, Wrong}
 use Rattle.standard.specs.Refusals.{first}
-use Rattle.standard.specs.Refusals.Laws.{refusal-room, refusal_keeps}
+use Rattle.standard.proofs.Theorems.Refusals.Laws.{refusal-room, refusal_keeps}
 use Rattle.standard.specs.Judgement.{number_of}
 use Rattle.station.specs.Record.Exactly.{FactorsOut, ToleranceOut}
 use Rattle.station.specs.Record.Exactly.Accepting.{accepting}

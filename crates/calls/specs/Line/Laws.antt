@@ -3,12 +3,12 @@ use Rattle.std.specs.Prelude.{◌≡◌, refl, List, ℕ, ◌<◌, length}
 use Rattle.std.proofs.Common.{sym, ap, ◌∙◌, arith}
 use Rattle.ticket.specs.Ticket.{ticket_of}
 use Rattle.ticket.specs.Ticket.Grammar.{WrongAt, too_long, first_wrong}
-use Rattle.ticket.specs.Ticket.Grammar.Wrong.{wrong_exactly}
+use Rattle.ticket.proofs.Theorems.Ticket.Grammar.Wrong.{wrong_exactly}
 use Rattle.ticket.specs.Ticket.Laws.{ticket_of_long}
 use Rattle.ticket.specs.declared.lines.Ticket.{Ticket}
 use Rattle.ticket.specs.declared.lines.Parsed.{Parsed}
 use Rattle.ticket.specs.declared.lines.Parsed.TheVariants.{Right, Wrong}
-use Rattle.standard.specs.Refusals.Laws.{refusal_keeps}
+use Rattle.standard.proofs.Theorems.Refusals.Laws.{refusal_keeps}
 use Rattle.standard.specs.Judgement.{number_of}
 use Rattle.standard.specs.Figures.{specimen_answer}
 use Rattle.standard.specs.declared.judge.Outcome.TheVariants.{Refused}

@@ -2,7 +2,7 @@
 use Rattle.std.specs.Prelude.{◌≡◌, refl, Bool, true, false, not, cond, ◌⊎◌, ℕ}
 use Rattle.std.proofs.Common.{inl, inr}
 use Rattle.colour.specs.Placed.{refusal_of, place, place_written}
-use Rattle.colour.specs.Placed.Laws.{place-refused, written-refused}
+use Rattle.colour.proofs.Theorems.Placed.Laws.{place-refused, written-refused}
 use Rattle.colour.specs.White.{white_numbered}
 use Rattle.colour.specs.declared.placed.Placed.{Placed}
 use Rattle.colour.specs.declared.placed.Placed.TheVariants as P
@@ -15,7 +15,7 @@ use Rattle.sheet.specs.Settings.{formula_numbered, is_factor, is_tolerance}
 use Rattle.ticket.specs.declared.lines.Ticket.{Ticket}
 use Rattle.ticket.specs.declared.lines.Parsed.{Parsed}
 use Rattle.ticket.specs.declared.lines.Parsed.TheVariants.{Right, Wrong}
-use Rattle.standard.specs.Refusals.Laws.{Each, none, more}
+use Rattle.standard.proofs.Theorems.Refusals.Laws.{Each, none, more}
 use Rattle.standard.specs.Acceptance.{no_formula, no_white, range_faults, accept_faults}
 use Rattle.station.specs.declared.Station.{Station}
 use Rattle.station.specs.declared.Station.TheVariants.{Empty, Holds}

@@ -3,14 +3,14 @@
 use Rattle.std.specs.Prelude.{◌≡◌, refl, List, ℕ}
 use Rattle.std.proofs.Common.{sym, ap, ◌∙◌, arith}
 use Rattle.colour.specs.Placed.{place}
-use Rattle.colour.specs.Placed.Laws.{place_on_grid}
+use Rattle.colour.proofs.Theorems.Placed.Laws.{place_on_grid}
 use Rattle.colour.specs.declared.placed.Placed.{Placed}
 use Rattle.colour.specs.declared.placed.Placed.TheVariants as P
 use Rattle.colour.specs.declared.placed.Reading.{Reading}
 use Rattle.standard.specs.Refusals.{at_room, number_at, first_of, refusal}
-use Rattle.standard.specs.Refusals.Laws.{first_zero}
+use Rattle.standard.proofs.Theorems.Refusals.Laws.{first_zero}
 use Rattle.standard.specs.Judgement.{judgement_of, outcome, number_of, Specimen, Judgeable}
-use Rattle.standard.specs.Judgement.Laws.{Says, judged-says, outcome-number}
+use Rattle.standard.proofs.Theorems.Judgement.Laws.{Says, judged-says, outcome-number}
 use Rattle.standard.specs.declared.accept.Standard.{Standard}
 use Rattle.standard.specs.declared.judge.Judgement.{Judgement}
 use Rattle.standard.specs.declared.judge.Outcome.{Outcome}

@@ -4,7 +4,7 @@ use Rattle.std.specs.Prelude.{◌≡◌, List, ◌∷◌, ◌++◌, ◌⊎◌, �
 use Rattle.std.proofs.Math.Path.{refl}
 use Rattle.std.proofs.Common.{sym, ap, ◌∙◌, inl, inr, arith}
 use Rattle.colour.specs.Placed.{place}
-use Rattle.colour.specs.Placed.Laws.{place_on_grid, place-refused}
+use Rattle.colour.proofs.Theorems.Placed.Laws.{place_on_grid, place-refused}
 use Rattle.colour.specs.White.{white_numbered}
 use Rattle.colour.specs.declared.placed.Placed.{Placed}
 use Rattle.colour.specs.declared.placed.Placed.TheVariants as P
@@ -19,8 +19,8 @@ use Rattle.sheet.specs.declared.settings.Settings.{Settings}
 use Rattle.standard.specs.Refusals.{Fault, at_reference, at_room, number_at, first_of, refusal}
 use Rattle.standard.specs.Acceptance.{number_faults, named, settings_of, range_faults, accept_faults, acceptance, ValidIn}
 use Rattle.standard.specs.Acceptance as Acceptance
-use Rattle.standard.specs.Acceptance.Laws.{accepted_made, accepted-valid, accept-number, refused_some}
-use Rattle.standard.specs.Acceptance.Numbers.{NumbersOf, settings-only}
+use Rattle.standard.proofs.Theorems.Acceptance.Laws.{accepted_made, accepted-valid, accept-number, refused_some}
+use Rattle.standard.proofs.Theorems.Acceptance.Numbers.{NumbersOf, settings-only}
 use Rattle.standard.specs.declared.accept.Standard.{Standard}
 use Rattle.standard.specs.declared.accept.SettingsOf.{SettingsOf}
 use Rattle.standard.specs.declared.accept.SettingsOf.TheVariants as S

@@ -6,7 +6,7 @@ use Rattle.std.proofs.Math.Path.{ap}
 use mathlib.Core.List.{List, [], ◌∷◌, map}
 use Prim.Native.Nat.{ℕ}
 use Rattle.colour.specs.Placed.{place_written, refusal_of}
-use Rattle.colour.specs.Placed.Laws.{written_on_grid, written-refused}
+use Rattle.colour.proofs.Theorems.Placed.Laws.{written_on_grid, written-refused}
 use Rattle.colour.specs.declared.placed.Placed.{Placed}
 use Rattle.colour.specs.declared.placed.Placed.TheVariants as P
 use Rattle.colour.specs.declared.placed.Written.{Written}
@@ -15,12 +15,12 @@ use Rattle.ticket.specs.declared.lines.Ticket.{Ticket}
 use Rattle.ticket.specs.declared.lines.Parsed.{Parsed}
 use Rattle.ticket.specs.declared.lines.Parsed.TheVariants.{Right, Wrong}
 use Rattle.standard.specs.Refusals.{at_l, at_c, at_tolerance, at_reference, at_room, number_at, first, first_of, refusal}
-use Rattle.standard.specs.Refusals.Laws.{first_zero, first_some, first_of-append}
+use Rattle.standard.proofs.Theorems.Refusals.Laws.{first_zero, first_some, first_of-append}
 use Rattle.standard.specs.Acceptance.{range_faults, accept_faults, acceptance}
 use Rattle.standard.specs.Acceptance as Acceptance
-use Rattle.standard.specs.Acceptance.Laws.{accepted-valid, accept-number, refused_some}
+use Rattle.standard.proofs.Theorems.Acceptance.Laws.{accepted-valid, accept-number, refused_some}
 use Rattle.standard.specs.Judgement.{judgement_of, outcome, number_of, Specimen, Judgeable}
-use Rattle.standard.specs.Judgement.Laws.{Says, judged-says, outcome-number}
+use Rattle.standard.proofs.Theorems.Judgement.Laws.{Says, judged-says, outcome-number}
 use Rattle.standard.specs.declared.accept.Standard.{Standard}
 use Rattle.standard.specs.declared.accept.Acceptance.{Acceptance}
 use Rattle.standard.specs.declared.accept.Acceptance.TheVariants as A

@@ -20,8 +20,6 @@ use Rattle.colour.specs.declared.placed.Written.TheVariants as W
 use Rattle.colour.specs.declared.placed.Placed.{Placed}
 use Rattle.colour.specs.declared.placed.Placed.TheVariants.{At, Refused}
 use Rattle.colour.specs.Placed.{converted, place, place_written}
-pub mod Ways
-pub mod Laws
 
 -- ---- THE RULES
 

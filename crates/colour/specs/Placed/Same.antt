@@ -5,7 +5,7 @@ use Rattle.std.specs.Float.{fin}
 use Rattle.std.specs.Float.Ieee.Exact.{HasValue}
 use Rattle.rounding.specs.Root.{root_of}
 use Rattle.reading.specs.Reading.{float_units}
-use Rattle.reading.specs.Reading.Laws.{float_as_decimal}
+use Rattle.reading.proofs.Theorems.Reading.Laws.{float_as_decimal}
 use Rattle.reading.specs.declared.decimal.Decimal.{Decimal}
 use Rattle.reading.specs.declared.quantity.Quantity.TheVariants.{Tristimulus, Lightness, Opponent}
 use Rattle.colour.specs.declared.white.White.{White}

@@ -1,6 +1,6 @@
 -- `colour_at` meets its contract: where no cone is refused, the reading of cone i is placed at its colour
 -- (`colour_there`), and so the last arm is never reached (`not_refused`). Assumes nothing.
-use Rattle.cones.specs.Cones.Laws.{readings_length, colour-has-reading, colour_there, not_refused}
+use Rattle.cones.proofs.Theorems.Cones.Laws.{readings_length, colour-has-reading, colour_there, not_refused}
 use Rattle.cones.proofs.colour_at.Goals as goal
 
 pub reading_at-requires : goal.reading_at-requires

@@ -4,8 +4,8 @@ use Rattle.std.specs.Prelude.{◌≡◌, refl, List, ◌↔◌, ◌⊎◌, ℕ, 
 use Rattle.std.proofs.Common.{sym, ap, subst, arith}
 use Rattle.colour.specs.Placed.{place}
 use Rattle.colour.specs.Placed.Exactly.{NotFinite, OutOfRange, Beyond}
-use Rattle.colour.specs.Placed.Exactly.Laws.{reading-rows}
-use Rattle.colour.specs.Placed.Laws.{place-refused}
+use Rattle.colour.proofs.Theorems.Placed.Exactly.Laws.{reading-rows}
+use Rattle.colour.proofs.Theorems.Placed.Laws.{place-refused}
 use Rattle.colour.specs.declared.conversion.GridColour.{GridColour}
 use Rattle.colour.specs.declared.placed.Placed.{Placed}
 use Rattle.colour.specs.declared.placed.Placed.TheVariants.{At, Refused}

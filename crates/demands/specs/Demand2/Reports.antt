@@ -4,7 +4,7 @@ use Rattle.std.proofs.Common.{sym, ap, ◌∙◌}
 use Rattle.text.specs.Put.{put_at}
 use Rattle.report.specs.Report.{report_text}
 use Rattle.standard.specs.Refusals.{Fault, number_at, refusal, at_room}
-use Rattle.standard.specs.Refusals.Laws.{first_none, refusal-room}
+use Rattle.standard.proofs.Theorems.Refusals.Laws.{first_none, refusal-room}
 use Rattle.standard.specs.Judgement.{number_of}
 use Rattle.standard.specs.declared.judge.Judgement.{Judgement}
 use Rattle.standard.specs.declared.judge.Outcome.{Outcome}

@@ -3,14 +3,14 @@
 use Rattle.std.specs.Prelude.{ℕ, ◌+◌, ◌*◌, ◌^◌, ◌≤◌, ◌<◌, ℤ}
 use Rattle.std.proofs.Common.{mul-le-mul, mul-le-mul_left, arith}
 use Rattle.rounding.specs.Fraction.{div-lt}
-use Rattle.rounding.specs.Root.Laws.{root-lt}
+use Rattle.rounding.proofs.Theorems.Root.Laws.{root-lt}
 use Rattle.rounding.specs.Signed.{∣◌∣}
 use Rattle.colour.specs.declared.conversion.GridColour.{GridColour}
 use Rattle.sheet.specs.Settings.{Factor}
 use Rattle.sheet.specs.Ranges.{SemiAxesInRange, Moved, InRange}
 use Rattle.sheet.specs.Sheet.{component, component_h, total, semi_axes_cielab, semi_axes, differences, sheet}
-use Rattle.sheet.specs.Sheet.Bounds.{semi_axes_of_grid, shift_of_grid, components-fit, total-lt}
-use Rattle.sheet.specs.Sheet.Laws.{abs-component, abs-component_h}
+use Rattle.sheet.proofs.Theorems.Sheet.Bounds.{semi_axes_of_grid, shift_of_grid, components-fit, total-lt}
+use Rattle.sheet.proofs.Theorems.Sheet.Laws.{abs-component, abs-component_h}
 use Rattle.sheet.specs.declared.semi_axes.SemiAxes.{SemiAxes}
 use Rattle.sheet.specs.declared.shift.Shift.{Shift}
 use Rattle.sheet.specs.declared.formula.Formula.{Formula}

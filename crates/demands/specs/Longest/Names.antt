@@ -7,11 +7,11 @@ use Rattle.std.proofs.Common.{zero-le, le-ltb}
 use native.Mathlib.Omega.{arith}
 use Rattle.std.specs.Int.Signed.{lt_z}
 use Rattle.rounding.specs.Signed.{∣◌∣, minus}
-use Rattle.rounding.specs.Signed.Laws.{quotient_is}
+use Rattle.rounding.proofs.Theorems.Signed.Laws.{quotient_is}
 use Rattle.colour.specs.declared.conversion.GridColour.{GridColour}
 use Rattle.sheet.specs.Sheet.{same_hue, component}
 use Rattle.names.specs.Names.{lightness_name, chroma_name, first_met, next_met, hue_named, hue_name}
-use Rattle.names.specs.Names.Laws.{turn, next-turn}
+use Rattle.names.proofs.Theorems.Names.Laws.{turn, next-turn}
 use Rattle.names.specs.declared.Lightness.TheVariants as L
 use Rattle.names.specs.declared.Chroma.TheVariants as C
 use Rattle.names.specs.declared.Axis.{Axis}

@@ -4,7 +4,7 @@ use Rattle.std.specs.Prelude.{◌≡◌, refl, List, ℕ, ◌≤◌, length}
 use Rattle.std.proofs.Common.{◌∙◌, arith, le-leb}
 use Rattle.text.specs.Put.{put_at}
 use Rattle.text.specs.Decimal.{whole_text}
-use Rattle.text.specs.Decimal.Laws.{last_digits_length, width_few}
+use Rattle.text.proofs.Theorems.Decimal.Laws.{last_digits_length, width_few}
 use Rattle.ticket.specs.Ticket.{ticket_of}
 use Rattle.standard.specs.declared.judge.Outcome.{Outcome}
 use Rattle.standard.specs.declared.judge.Outcome.TheVariants.{Refused, Judged}

@@ -5,7 +5,7 @@ use Rattle.std.specs.Prelude.{◌≡◌, ℕ, ◌+◌, ◌-◌, ◌*◌, ◌≤�
 use Rattle.std.proofs.Common.{ap, mul-le-mul_right, arith}
 use Rattle.rounding.specs.Fraction.{LooseFraction, two_fractions_lt, cross_fractions_lt}
 use Rattle.rounding.specs.Root.{LooseRoot}
-use Rattle.rounding.specs.Root.Laws.{two_roots_lt, square-low, square-high}
+use Rattle.rounding.proofs.Theorems.Root.Laws.{two_roots_lt, square-low, square-high}
 use Rattle.finer.specs.Products.{le_of_mul_le, square_le, le_of_square_le}
 use Rattle.finer.specs.Loose.{unit, coarse, Data, Quantities, LooseHue}
 

@@ -3,7 +3,7 @@
 use Rattle.std.specs.Prelude.{◌≡◌, ◌⊎◌, ℕ, ◌+◌, ◌*◌, ◌≤◌, ◌<◌}
 use Rattle.std.proofs.Common.{inl, inr, mul-le-mul, mul-le-mul_right, eq-zero-or-pos, arith}
 use Rattle.rounding.specs.Root.{LooseRoot}
-use Rattle.rounding.specs.Root.Laws.{two_roots_lt}
+use Rattle.rounding.proofs.Theorems.Root.Laws.{two_roots_lt}
 use Rattle.sheet.specs.declared.formula.Formula.{Formula}
 use Rattle.sheet.specs.declared.formula.Formula.TheVariants.{CIELAB, CIE94, CMC}
 use Rattle.finer.specs.Products.{le_of_mul_le}

@@ -8,15 +8,15 @@ use Prim.Native.Nat.{ℕ, ◌+◌, ◌-◌, ◌*◌, ◌^◌, ◌≤◌, ◌<◌
 use Rattle.std.proofs.Math.Decide.{dec_le}
 use Rattle.std.proofs.Math.IntN.{ℤ}
 use Rattle.rounding.specs.Fraction.{fraction_weaken}
-use Rattle.rounding.specs.Root.Laws.{le-root, root_weaken, sq}
+use Rattle.rounding.proofs.Theorems.Root.Laws.{le-root, root_weaken, sq}
 use Rattle.rounding.specs.Signed.{∣◌∣, square, ◌·◌}
 use Rattle.colour.specs.Conversion.{Lab}
 use Rattle.sheet.specs.Settings.{Factor}
 use Rattle.sheet.specs.Sheet.{chroma, chroma_of, change, same_hue, hue_change, semi_axis_c, hue_q, hue_w, hue_f, second_form}
 use Rattle.sheet.specs.Sheet.{hue_m, hue_t, hue_p, hue_g, semi_axes_cielab, semi_axes_cie94, semi_axes_cmc, semi_axes}
-use Rattle.sheet.specs.Sheet.Laws.{chroma-pos, le-hue_w, hue_w-pos, hue_f-le, hue_m-le, hue_t-le, le-hue_t, le-hue_g}
-use Rattle.sheet.specs.Sheet.Laws.{hue_semi_axis-neutral, hue_semi_axis-chromatic, abs-change}
-use Rattle.sheet.specs.Sheet.Facts.{semi_axes_at_least, divisors}
+use Rattle.sheet.proofs.Theorems.Sheet.Laws.{chroma-pos, le-hue_w, hue_w-pos, hue_f-le, hue_m-le, hue_t-le, le-hue_t, le-hue_g}
+use Rattle.sheet.proofs.Theorems.Sheet.Laws.{hue_semi_axis-neutral, hue_semi_axis-chromatic, abs-change}
+use Rattle.sheet.proofs.Theorems.Sheet.Facts.{semi_axes_at_least, divisors}
 use Rattle.sheet.specs.declared.formula.Formula.{Formula}
 use Rattle.sheet.specs.declared.formula.Formula.TheVariants.{CIELAB, CIE94, CMC}
 use Rattle.finer.specs.Loose.{Loose, LooseHue, LooseCMC, LooseSemiAxes, LooseDifferences}

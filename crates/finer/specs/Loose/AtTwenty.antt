@@ -12,13 +12,13 @@ use Rattle.std.proofs.Math.IntN.{ℤ}
 use Rattle.rounding.specs.Signed.{square, ◌·◌}
 use Rattle.colour.specs.declared.conversion.GridColour.{GridColour}
 use Rattle.colour.specs.Conversion.{Lab, at_places}
-use Rattle.colour.specs.Conversion.Places.{units, at_places_20}
+use Rattle.colour.proofs.Theorems.Conversion.Places.{units, at_places_20}
 use Rattle.sheet.specs.Settings.{Factor}
 use Rattle.sheet.specs.Sheet.{chroma, chroma_of, semi_axis_c, hue_q, hue_w, hue_f, second_form, hue_m, hue_t, hue_p}
 use Rattle.sheet.specs.Sheet.{semi_axes_cielab, semi_axes_cie94, semi_axes_cmc, semi_axes}
-use Rattle.sheet.specs.Sheet.Laws.{chroma-pos, le-hue_w, hue_w-pos, hue_f-le, hue_m-le, hue_t-le, hue_semi_axis-neutral}
-use Rattle.sheet.specs.Sheet.Laws.{hue_semi_axis-chromatic}
-use Rattle.sheet.specs.Sheet.Facts.{semi_axes_at_least, divisors}
+use Rattle.sheet.proofs.Theorems.Sheet.Laws.{chroma-pos, le-hue_w, hue_w-pos, hue_f-le, hue_m-le, hue_t-le, hue_semi_axis-neutral}
+use Rattle.sheet.proofs.Theorems.Sheet.Laws.{hue_semi_axis-chromatic}
+use Rattle.sheet.proofs.Theorems.Sheet.Facts.{semi_axes_at_least, divisors}
 use Rattle.sheet.specs.declared.formula.Formula.{Formula}
 use Rattle.sheet.specs.declared.formula.Formula.TheVariants.{CIELAB, CIE94, CMC}
 use Rattle.finer.specs.Products.{root-scaled}

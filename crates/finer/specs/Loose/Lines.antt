@@ -9,10 +9,10 @@ use Rattle.std.proofs.Math.Pow.{pow_pos}
 use Rattle.rounding.specs.Fraction.{LooseFraction, IsFraction, fraction_law}
 use Rattle.rounding.specs.Root.{LooseRoot, IsRoot, root_law}
 use Rattle.rounding.specs.Signed.{∣◌∣, square, ◌·◌}
-use Rattle.rounding.specs.Signed.Laws.{abs-signed}
+use Rattle.rounding.proofs.Theorems.Signed.Laws.{abs-signed}
 use Rattle.sheet.specs.Sheet.{chroma, same_hue, hue_change, semi_axis_l, semi_axis_c, hue_q, hue_w, hue_f, hue_t, hue_p, hue_g}
 use Rattle.sheet.specs.Sheet.{semi_axis_h, semi_axis_c94, semi_axis_h94, component, component_h, total}
-use Rattle.sheet.specs.Sheet.Laws.{semi_axis_l-dark, semi_axis_l-light, abs-component, abs-component_h}
+use Rattle.sheet.proofs.Theorems.Sheet.Laws.{semi_axis_l-dark, semi_axis_l-light, abs-component, abs-component_h}
 use Rattle.finer.specs.Products.{fraction-scaled, root-scaled}
 use Rattle.finer.specs.Loose.{unit, coarse, constant, slope}
 use Rattle.finer.specs.Loose.Times.{square-times}

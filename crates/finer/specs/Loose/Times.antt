@@ -7,11 +7,11 @@ use Rattle.std.proofs.Math.Bool.{true, false, ◌||◌}
 use Rattle.std.proofs.Math.Nat.{mul-sub}
 use Rattle.std.proofs.Math.IntN.{◌+ℤ◌, ◌-ℤ◌}
 use Rattle.rounding.specs.Signed.{∣◌∣, square, minus, ◌·◌}
-use Rattle.rounding.specs.Signed.Difference.{diff_same, diff_parts, diff_mul}
-use Rattle.rounding.specs.Signed.Laws.{abs-mul, mul_add_ℤ, minus-scaled, sub-scaled, abs-sub-scaled}
+use Rattle.rounding.proofs.Theorems.Signed.Difference.{diff_same, diff_parts, diff_mul}
+use Rattle.rounding.proofs.Theorems.Signed.Laws.{abs-mul, mul_add_ℤ, minus-scaled, sub-scaled, abs-sub-scaled}
 use Rattle.colour.specs.declared.conversion.GridColour.{GridColour}
 use Rattle.colour.specs.Conversion.{Lab, at_places}
-use Rattle.colour.specs.Conversion.Places.{units}
+use Rattle.colour.proofs.Theorems.Conversion.Places.{units}
 use Rattle.sheet.specs.Sheet.{distance², change, cross, dot, same_hue, second_form, hue_m}
 
 -- a colour in a unit K times finer

@@ -16,7 +16,7 @@ use Rattle.names.specs.declared.Axis.TheVariants.{Redder, Yellower, Greener, Blu
 use Rattle.names.specs.declared.Hue.{Hue}
 use Rattle.names.specs.declared.Hue.TheVariants as H
 use Rattle.text.specs.Decimal.{minus_sign, decimal_text}
-use Rattle.text.specs.Decimal.Laws.{shown_whole_lt, width-le, decimal-length}
+use Rattle.text.proofs.Theorems.Decimal.Laws.{shown_whole_lt, width-le, decimal-length}
 use Rattle.text.specs.Names.{white_name}
 use Rattle.lines.specs.Lines.{lightness_word, chroma_word, axis_word, hue_word, verdict_word, thousandths, figure}
 use Rattle.lines.specs.Lines.{signed_figure}

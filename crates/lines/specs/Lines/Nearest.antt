@@ -3,7 +3,7 @@
 use Rattle.std.specs.Prelude.{◌≡◌, refl, Bool, ◌&&◌, ℕ, ◌/◌, ◌^◌, ltb, ℤ}
 use Rattle.std.proofs.Common.{arith}
 use Rattle.rounding.specs.Signed.{∣◌∣, minus}
-use Rattle.text.specs.Decimal.Nearest.{ShownNearest, shown-nearest}
+use Rattle.text.proofs.Theorems.Decimal.Nearest.{ShownNearest, shown-nearest}
 use Rattle.text.specs.declared.decimal.Shown.{Shown}
 use Rattle.lines.specs.Lines.{figure, signed_figure}
 

@@ -1,8 +1,8 @@
 -- `names::first_anticlockwise` meets its contract: each way out is a row of the table (`Names/Laws.antt`).
 -- Assumes nothing.
 use mir.Facts.{to_z-of_z}
-use Rattle.names.specs.Names.Laws.{ahead_first_quarter, ahead-second-quarter, ahead-third-quarter}
-use Rattle.names.specs.Names.Laws.{ahead-fourth-quarter, ahead-right}
+use Rattle.names.proofs.Theorems.Names.Laws.{ahead_first_quarter, ahead-second-quarter, ahead-third-quarter}
+use Rattle.names.proofs.Theorems.Names.Laws.{ahead-fourth-quarter, ahead-right}
 use Rattle.names.proofs.first_anticlockwise.Statement.{statement}
 use Rattle.names.proofs.first_anticlockwise.Tie as tie
 

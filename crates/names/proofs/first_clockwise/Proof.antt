@@ -1,7 +1,7 @@
 -- `names::first_clockwise` meets its contract: each way out is a row of the table (`Names/Laws.antt`). Assumes nothing.
 use mir.Facts.{to_z-of_z}
-use Rattle.names.specs.Names.Laws.{behind_first_quarter, behind-second-quarter, behind-third-quarter}
-use Rattle.names.specs.Names.Laws.{behind-fourth-quarter, behind-left}
+use Rattle.names.proofs.Theorems.Names.Laws.{behind_first_quarter, behind-second-quarter, behind-third-quarter}
+use Rattle.names.proofs.Theorems.Names.Laws.{behind-fourth-quarter, behind-left}
 use Rattle.names.proofs.first_clockwise.Statement.{statement}
 use Rattle.names.proofs.first_clockwise.Tie as tie
 

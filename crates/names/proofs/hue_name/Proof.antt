@@ -8,7 +8,7 @@ use Rattle.sheet.specs.Sheet.{same_hue}
 use Rattle.names.specs.declared.Axis.{Axis}
 use Rattle.names.specs.declared.Hue.TheVariants.{Towards}
 use Rattle.names.specs.Names.{first_met, next_met}
-use Rattle.names.specs.Names.Laws.{hue-equal, hue_towards}
+use Rattle.names.proofs.Theorems.Names.Laws.{hue-equal, hue_towards}
 use Rattle.names.proofs.hue_name.Statement.{statement}
 use Rattle.names.proofs.hue_name.Tie as tie
 

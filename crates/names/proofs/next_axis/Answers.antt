@@ -4,7 +4,7 @@ use Rattle.std.proofs.Common.{◌≡◌, sym, ap₂, ◌∙◌}
 use Rattle.std.specs.Prelude.{Bool}
 use Rattle.names.specs.declared.Axis.{Axis}
 use Rattle.names.specs.Names.{next_met}
-use Rattle.names.specs.Names.Laws.{turn, next-turn}
+use Rattle.names.proofs.Theorems.Names.Laws.{turn, next-turn}
 use Rattle.names.proofs.next_axis.Goals as goal
 
 row : {w v : Bool} {x y : Axis} → w ≡ v → x ≡ y → turn v y ≡ next_met w x

@@ -5,7 +5,7 @@ use Rattle.std.proofs.Common.{◌∙◌, subst, ⊎_elim, arith, zero-add, eq-ze
 use Rattle.std.proofs.lemmas.Bool.{lt-leb}
 use Rattle.std.proofs.Math.Dec.{leb}
 use Rattle.text.specs.Put.{put_at, Puts}
-use Rattle.text.specs.Put.Laws.{put-length}
+use Rattle.text.proofs.Theorems.Put.Laws.{put-length}
 use Rattle.text.specs.Decimal.{whole_text}
 use Rattle.ticket.specs.Ticket.{ticket_of}
 use Rattle.ticket.specs.Ticket.Laws.{ticket_of_long}

@@ -10,7 +10,7 @@ use Rattle.text.specs.Ascii.{ascii}
 use Rattle.text.specs.Decimal.{decimal_text}
 use Rattle.text.specs.Names.{formula_name, white_name}
 use Rattle.text.specs.Put.{joined, line}
-use Rattle.text.specs.Put.Laws.{line-length}
+use Rattle.text.proofs.Theorems.Put.Laws.{line-length}
 use Rattle.text.specs.declared.decimal.Shown.{Shown}
 use Rattle.lines.specs.Lines.{lightness_word, chroma_word, hue_word, verdict_word, unless_withheld, thousandths, figure}
 use Rattle.lines.specs.Lines.{signed_figure}

@@ -19,12 +19,12 @@ use Rattle.names.specs.declared.Axis.TheVariants.{Redder, Yellower, Greener, Blu
 use Rattle.names.specs.declared.Hue.{Hue}
 use Rattle.names.specs.declared.Hue.TheVariants as H
 use Rattle.standard.specs.declared.judge.Judgement.{Judgement}
-use Rattle.text.specs.Bytes.Parts.{free, free-append}
+use Rattle.text.proofs.Theorems.Bytes.Parts.{free, free-append}
 use Rattle.text.specs.Decimal.{decimal_text}
 use Rattle.text.specs.Names.{formula_name, white_name}
-use Rattle.text.specs.Number.Written.{free-minus, free-decimal}
+use Rattle.text.proofs.Theorems.Number.Written.{free-minus, free-decimal}
 use Rattle.text.specs.Lines.{ended}
-use Rattle.text.specs.Lines.Laws.{bytes, Proper, AreLines}
+use Rattle.text.proofs.Theorems.Lines.Laws.{bytes, Proper, AreLines}
 use Rattle.text.specs.Put.{joined, line}
 use Rattle.text.specs.declared.decimal.Shown.{Shown}
 use Rattle.lines.specs.Lines.{lightness_word, chroma_word, axis_word, hue_word, verdict_word, unless_withheld}

@@ -6,9 +6,9 @@ use Rattle.std.proofs.Common.{ap}
 use Rattle.std.proofs.Math.Bool.{not-eq-not}
 use Rattle.colour.specs.declared.conversion.GridColour.{GridColour}
 use Rattle.sheet.specs.declared.differences.Differences.{Differences}
-use Rattle.names.specs.Names.Withheld.{Achromatic, Withholds, TestAlone}
+use Rattle.names.proofs.Theorems.Names.Withheld.{Achromatic, Withholds, TestAlone}
 use Rattle.standard.specs.Judgement.{judgement_of}
-use Rattle.standard.specs.Judgement.Withheld.{judgement-withheld, judgement_by_reference, judgement_as_before}
+use Rattle.standard.proofs.Theorems.Judgement.Withheld.{judgement-withheld, judgement_by_reference, judgement_as_before}
 use Rattle.standard.specs.declared.accept.Standard.{Standard}
 use Rattle.standard.specs.declared.judge.Judgement.{Judgement}
 use Rattle.text.specs.Ascii.{ascii}

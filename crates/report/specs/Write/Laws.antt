@@ -3,7 +3,7 @@ use Rattle.std.specs.Prelude.{◌≡◌, cond, List, ◌++◌, ℕ, ◌+◌, ◌
 use Rattle.std.proofs.Common.{◌∙◌, le-leb}
 use Rattle.std.proofs.lemmas.Bool.{lt-leb}
 use Rattle.text.specs.Put.{put_at}
-use Rattle.text.specs.Put.Laws.{put_spelled}
+use Rattle.text.proofs.Theorems.Put.Laws.{put_spelled}
 use Rattle.standard.specs.declared.judge.Judgement.{Judgement}
 use Rattle.report.specs.Report.{report_text}
 use Rattle.report.specs.Write.{has_room}

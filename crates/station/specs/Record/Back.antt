@@ -6,13 +6,13 @@ use Rattle.std.proofs.Common.{ap₂, ◌∙◌, arith, eqb-true, drop_of_length-
 use mathlib.Core.List.{List, [], ◌∷◌, ◌++◌}
 use Rattle.rounding.specs.Signed.{∣◌∣}
 use Rattle.reading.specs.Grid.{grid_of}
-use Rattle.colour.specs.Conversion.Laws.{grid_on}
+use Rattle.colour.proofs.Theorems.Conversion.Laws.{grid_on}
 use Rattle.colour.specs.declared.conversion.GridColour.{GridColour}
 use Rattle.sheet.specs.Settings.{formula_numbered}
 use Rattle.sheet.specs.declared.settings.Settings.{Settings}
 use Rattle.standard.specs.Acceptance.{settings_of, acceptance, Valid}
-use Rattle.standard.specs.Acceptance.Laws.{accepted_made, accepted-valid, valid-accepted}
-use Rattle.standard.specs.Acceptance.Numbers.{settings_back, settings-only}
+use Rattle.standard.proofs.Theorems.Acceptance.Laws.{accepted_made, accepted-valid, valid-accepted}
+use Rattle.standard.proofs.Theorems.Acceptance.Numbers.{settings_back, settings-only}
 use Rattle.standard.specs.declared.accept.Standard.{Standard}
 use Rattle.standard.specs.declared.accept.SettingsOf.{SettingsOf}
 use Rattle.standard.specs.declared.accept.SettingsOf.TheVariants as S

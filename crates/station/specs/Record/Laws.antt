@@ -3,7 +3,7 @@ use Rattle.std.specs.Prelude.{◌≡◌, refl, Bool, true, false, cond, List, �
 use Rattle.std.proofs.Common.{subst, arith, eq-eqb, ne_eqb, lt-ltb, le-ltb}
 use Rattle.rounding.specs.Signed.{∣◌∣, minus, signed}
 use Rattle.colour.specs.Conversion.{on_grid}
-use Rattle.colour.specs.Conversion.Laws.{on_grid_lem}
+use Rattle.colour.proofs.Theorems.Conversion.Laws.{on_grid_lem}
 use Rattle.colour.specs.Conversion.Ranges.{OnGrid}
 use Rattle.colour.specs.declared.conversion.GridColour.{GridColour}
 use Rattle.colour.specs.declared.placed.Placed.TheVariants as P

@@ -5,7 +5,7 @@ use Rattle.std.proofs.Math.Option.{Option, none, some, map, map-eq-some_iff}
 use Rattle.std.proofs.Math.Nat.{pow-succ', pow-le-pow_right}
 use Rattle.std.proofs.Math.Numerals.{add-one}
 use borrow.Author.Tests.{lt-ltb, le-ltb, le-leb, lt-leb, leb-true}
-use Rattle.colour.specs.Conversion.Laws.{both_true}
+use Rattle.colour.proofs.Theorems.Conversion.Laws.{both_true}
 use Rattle.text.specs.Ascii.{ascii}
 use Rattle.reading.specs.declared.decimal.Decimal.{Decimal}
 use Rattle.text.specs.Bytes.{has, before, after, starts_with}

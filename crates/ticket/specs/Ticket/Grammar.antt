@@ -13,17 +13,6 @@ use Rattle.colour.specs.declared.placed.Written.{Written}
 use Rattle.ticket.specs.Ticket.{formula_named, white_named, space_named, space_of, in_space, missing_l, missing_c}
 use Rattle.ticket.specs.declared.value.Space.{Space}
 use Rattle.ticket.specs.declared.lines.Ticket.{Ticket}
-pub mod Parted
-pub mod Free
-pub mod Values
-pub mod Tells
-pub mod Steps
-pub mod Wrong
-pub mod Read
-pub mod Spelt
-pub mod Right
-pub mod Lengths
-pub mod Cases
 
 -- ---- the places of a ticket's lines
 

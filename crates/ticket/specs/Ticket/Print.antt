@@ -11,7 +11,6 @@ use Rattle.colour.specs.declared.placed.Written.TheVariants as W
 use Rattle.ticket.specs.Ticket.{space_name, space_of}
 use Rattle.ticket.specs.Ticket.Grammar.{Place, all_places, without_l_and_c, text_of}
 use Rattle.ticket.specs.declared.lines.Ticket.{Ticket}
-pub mod Laws
 
 -- ---- readings
 

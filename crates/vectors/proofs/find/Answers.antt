@@ -1,6 +1,6 @@
 -- What was placed lies on the grid, so the sheet may be asked.
 use Rattle.std.proofs.Common.{arith, sym, ◌∙◌}
-use Rattle.colour.specs.Placed.Laws.{written_on_grid}
+use Rattle.colour.proofs.Theorems.Placed.Laws.{written_on_grid}
 use Rattle.vectors.proofs.find.Goals as goal
 
 pub comparison_of-all-requires : goal.comparison_of-all-requires

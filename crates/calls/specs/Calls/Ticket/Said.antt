@@ -3,7 +3,7 @@
 use Rattle.std.specs.Prelude.{◌≡◌, refl, ◌⊎◌, List, ℕ}
 use Rattle.std.proofs.Common.{sym, ap, ◌∙◌, inl, inr}
 use Rattle.colour.specs.Placed.{place_written}
-use Rattle.colour.specs.Placed.Laws.{written_on_grid, written-refused}
+use Rattle.colour.proofs.Theorems.Placed.Laws.{written_on_grid, written-refused}
 use Rattle.colour.specs.Placed.Same.{PlacedAlike, SaysTheSame, same_value_same_place}
 use Rattle.colour.specs.Placed.Same.{out_of_range, six_in_every_white, beyond_the_grid, eight_in_every_white}
 use Rattle.colour.specs.White.{number_of_white}
@@ -18,7 +18,7 @@ use Rattle.ticket.specs.Ticket.{ticket_of}
 use Rattle.ticket.specs.declared.lines.Ticket.{Ticket}
 use Rattle.ticket.specs.declared.lines.Parsed.TheVariants.{Right}
 use Rattle.standard.specs.Acceptance.{settings_of}
-use Rattle.standard.specs.Acceptance.Numbers.{settings_back}
+use Rattle.standard.proofs.Theorems.Acceptance.Numbers.{settings_back}
 use Rattle.standard.specs.declared.accept.SettingsOf.TheVariants.{Are}
 use Rattle.station.specs.Record.{decode, zeros}
 use Rattle.calls.specs.Outcome.{loaded, judged_by, ticket_outcome}

@@ -11,7 +11,7 @@ use mir.Facts.{to_z_pos}
 use Rattle.colour.specs.declared.conversion.GridColour.{GridColour}
 use Rattle.colour.specs.declared.white.TristimulusValues.{TristimulusValues}
 use Rattle.colour.specs.Conversion.{bs6923, f, lightness, convert, grid_colour}
-use Rattle.colour.specs.Conversion.Laws.{f_lt, lightness-le}
+use Rattle.colour.proofs.Theorems.Conversion.Laws.{f_lt, lightness-le}
 use Rattle.colour.proofs.conversion.grid_colour.Statement.{statement}
 use Rattle.colour.proofs.conversion.grid_colour.Tie as tie
 

@@ -6,7 +6,7 @@ use Prim.Native.Nat.{ℕ, ◌-◌, ◌*◌, ◌≤◌, ◌<◌}
 use native.Mathlib.Omega.{arith}
 use borrow.Author.Rules.{rules}
 use Rattle.colour.specs.Conversion.{bs6923, above_cut}
-use Rattle.colour.specs.Conversion.Laws.{f_lt, le_f, lightness-above, lightness_below}
+use Rattle.colour.proofs.Theorems.Conversion.Laws.{f_lt, le_f, lightness-above, lightness_below}
 use Rattle.colour.proofs.conversion.lightness_of.Statement.{statement}
 use Rattle.colour.proofs.conversion.lightness_of.Tie as tie
 

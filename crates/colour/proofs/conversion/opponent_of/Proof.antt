@@ -9,7 +9,7 @@ use mir.Syntax.{w64}
 use mir.Val.{to_z, of_z}
 use mir.Facts.{to_z-of_z, to_z_pos}
 use Rattle.rounding.specs.Signed.{∣◌∣}
-use Rattle.rounding.specs.Signed.Laws.{abs-mul, abs-sub-le}
+use Rattle.rounding.proofs.Theorems.Signed.Laws.{abs-mul, abs-sub-le}
 use Rattle.colour.specs.Conversion.Ranges.{Opposed}
 use Rattle.colour.proofs.conversion.opponent_of.Statement.{statement}
 use Rattle.colour.proofs.conversion.opponent_of.Tie as tie

@@ -1,7 +1,7 @@
 -- `placed::accepted_colour` meets its contract: one law of `Placed/Ways.antt` for each way out. Assumes nothing.
 use mathlib.Core.Path.{sym, ◌∙◌}
 use borrow.Author.Rules.{rules}
-use Rattle.colour.specs.Placed.Ways.{accepted_beyond_a, accepted_beyond_b, accepted_at}
+use Rattle.colour.proofs.Theorems.Placed.Ways.{accepted_beyond_a, accepted_beyond_b, accepted_at}
 use Rattle.colour.proofs.placed.accepted_colour.Statement.{statement}
 use Rattle.colour.proofs.placed.accepted_colour.Tie as tie
 

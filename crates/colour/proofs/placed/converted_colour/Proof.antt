@@ -13,7 +13,7 @@ use Rattle.colour.specs.Conversion.{bs6923, convert, grid_colour}
 use Rattle.colour.specs.Conversion.Ranges.{Measured}
 use Rattle.colour.specs.Placed.{converted}
 use Rattle.colour.specs.Placed.Ranges.{Millionths}
-use Rattle.colour.specs.Placed.Ways.{measured}
+use Rattle.colour.proofs.Theorems.Placed.Ways.{measured}
 use Rattle.colour.proofs.placed.converted_colour.Statement.{statement}
 use Rattle.colour.proofs.placed.converted_colour.Tie as tie
 

@@ -3,7 +3,7 @@ use mathlib.Core.Bool.{false}
 use mathlib.Core.Path.{◌≡◌, sym, ◌∙◌}
 use borrow.Author.Rules.{rules}
 use Rattle.colour.specs.Placed.{is_not_finite}
-use Rattle.colour.specs.Placed.Ways.{fault_first, fault-second, fault-third, fault_none}
+use Rattle.colour.proofs.Theorems.Placed.Ways.{fault_first, fault-second, fault-third, fault_none}
 use Rattle.colour.proofs.placed.fault_of.Statement.{statement}
 use Rattle.colour.proofs.placed.fault_of.Tie as tie
 

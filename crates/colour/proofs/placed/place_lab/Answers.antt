@@ -2,7 +2,7 @@
 use Rattle.std.proofs.Common.{◌≡◌, w64, to_z, of_z, rules}
 use Rattle.std.specs.Prelude.{ℤ}
 use Rattle.colour.specs.Placed.{place_lab}
-use Rattle.colour.specs.Placed.Ways.{take_first_refused, take-second-refused, take-third-refused, take-handed}
+use Rattle.colour.proofs.Theorems.Placed.Ways.{take_first_refused, take-second-refused, take-third-refused, take-handed}
 use Rattle.colour.proofs.NoUnits.{no_units}
 use Rattle.colour.proofs.placed.place_lab.Goals as goal
 

@@ -2,10 +2,10 @@
 -- Assumes nothing.
 use Rattle.std.proofs.Common.{sym, ap, ◌∙◌}
 use Rattle.reading.specs.Reading.{decimal_units}
-use Rattle.reading.specs.Reading.Laws.{decimal-units-within}
+use Rattle.reading.proofs.Theorems.Reading.Laws.{decimal-units-within}
 use Rattle.colour.specs.Placed.{place_written}
-use Rattle.colour.specs.Placed.Laws.{xyz-within}
-use Rattle.colour.specs.Placed.Ways.{take_xyz_is, take_lab_is}
+use Rattle.colour.proofs.Theorems.Placed.Laws.{xyz-within}
+use Rattle.colour.proofs.Theorems.Placed.Ways.{take_xyz_is, take_lab_is}
 use Rattle.colour.proofs.placed.place_written.Goals as goal
 
 pub place_xyz-requires : goal.place_xyz-requires

@@ -5,7 +5,7 @@ use Rattle.colour.specs.declared.conversion.GridColour.{GridColour}
 use Rattle.colour.specs.declared.placed.Placed.{Placed}
 use Rattle.colour.specs.declared.white.White.{White}
 use Rattle.colour.specs.Placed.{accepted, converted, place_xyz}
-use Rattle.colour.specs.Placed.Ways.{take_first_refused, take-second-refused, take-third-refused, take-handed}
+use Rattle.colour.proofs.Theorems.Placed.Ways.{take_first_refused, take-second-refused, take-third-refused, take-handed}
 use Rattle.colour.proofs.NoUnits.{no_units}
 use Rattle.colour.proofs.placed.place_xyz.Goals as goal
 

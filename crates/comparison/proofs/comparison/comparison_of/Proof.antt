@@ -7,8 +7,8 @@ use mir.Val.{to_z, of_z}
 use Rattle.colour.specs.Conversion.{at_places}
 use Rattle.sheet.specs.declared.semi_axes.SemiAxes.{SemiAxes}
 use Rattle.sheet.specs.Sheet.{sheet, cross_of, dot_of}
-use Rattle.sheet.specs.Sheet.Laws.{semi_axes_C}
-use Rattle.sheet.specs.Sheet.Bounds.{semi_axes_of_grid, shift_of_grid, factor_under-fits, sheet-DE-lt}
+use Rattle.sheet.proofs.Theorems.Sheet.Laws.{semi_axes_C}
+use Rattle.sheet.proofs.Theorems.Sheet.Bounds.{semi_axes_of_grid, shift_of_grid, factor_under-fits, sheet-DE-lt}
 use Rattle.comparison.proofs.FromParts.{sheet_is, comparison_is}
 use Rattle.comparison.proofs.comparison.comparison_of.Statement.{statement}
 use Rattle.comparison.proofs.comparison.comparison_of.Tie as tie

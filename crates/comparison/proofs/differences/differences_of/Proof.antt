@@ -6,7 +6,7 @@ use borrow.Author.Rules.{rules}
 use mir.Syntax.{w64}
 use mir.Val.{to_z, of_z}
 use Rattle.sheet.specs.Sheet.{component, component_h, differences}
-use Rattle.sheet.specs.Sheet.Bounds.{components-fit}
+use Rattle.sheet.proofs.Theorems.Sheet.Bounds.{components-fit}
 use Rattle.comparison.proofs.differences.differences_of.Statement.{statement}
 use Rattle.comparison.proofs.differences.differences_of.Tie as tie
 

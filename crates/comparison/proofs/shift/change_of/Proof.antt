@@ -7,7 +7,7 @@ use lib.IntN.{pos}
 use mir.Syntax.{w64}
 use mir.Val.{to_z, of_z}
 use mir.Facts.{to_z_pos}
-use Rattle.sheet.specs.Sheet.Laws.{abs-change}
+use Rattle.sheet.proofs.Theorems.Sheet.Laws.{abs-change}
 use Rattle.comparison.proofs.shift.change_of.Statement.{statement}
 use Rattle.comparison.proofs.shift.change_of.Tie as tie
 

@@ -8,7 +8,7 @@ use lib.IntN.{ℤ, ◌-ℤ◌}
 use mir.Syntax.{w64}
 use mir.Val.{to_z, of_z}
 use mir.Facts.{to_z-of_z}
-use Rattle.rounding.specs.Signed.Laws.{abs-sub-le}
+use Rattle.rounding.proofs.Theorems.Signed.Laws.{abs-sub-le}
 use Rattle.rounding.specs.Signed.{square}
 use Rattle.sheet.specs.Sheet.{distance²}
 use Rattle.comparison.proofs.shift.distance_squared.Statement.{statement}

@@ -10,10 +10,10 @@ use mir.Syntax.{w64}
 use mir.Val.{to_z, of_z}
 use mir.Facts.{to_z-of_z}
 use Rattle.rounding.specs.Root.{root_of}
-use Rattle.rounding.specs.Root.Laws.{root-lt}
+use Rattle.rounding.proofs.Theorems.Root.Laws.{root-lt}
 use Rattle.rounding.specs.Signed.{∣◌∣, square, minus, signed}
 use Rattle.sheet.specs.Sheet.{same_hue, hue_change}
-use Rattle.sheet.specs.Sheet.Laws.{hue_change-zero}
+use Rattle.sheet.proofs.Theorems.Sheet.Laws.{hue_change-zero}
 use Rattle.comparison.proofs.shift.hue_change.Statement.{statement}
 use Rattle.comparison.proofs.shift.hue_change.Tie as tie
 

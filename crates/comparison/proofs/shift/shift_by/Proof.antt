@@ -8,7 +8,7 @@ use mir.Syntax.{w64}
 use mir.Val.{to_z, of_z}
 use mir.Facts.{to_z-of_z}
 use Rattle.sheet.specs.Sheet.{change, hue_change}
-use Rattle.sheet.specs.Sheet.Laws.{change-le}
+use Rattle.sheet.proofs.Theorems.Sheet.Laws.{change-le}
 use Rattle.comparison.proofs.shift.shift_by.Statement.{statement}
 use Rattle.comparison.proofs.shift.shift_by.Tie as tie
 

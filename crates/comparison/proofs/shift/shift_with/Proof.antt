@@ -9,10 +9,10 @@ use Rattle.rounding.specs.Signed.{∣◌∣}
 use Rattle.colour.specs.declared.conversion.GridColour.{GridColour}
 use Rattle.colour.specs.Conversion.{at_places}
 use Rattle.colour.specs.Conversion.Ranges.{OnGrid}
-use Rattle.colour.specs.Conversion.Places.{at_places_20}
+use Rattle.colour.proofs.Theorems.Conversion.Places.{at_places_20}
 use Rattle.sheet.specs.declared.shift.Shift.{Shift}
 use Rattle.sheet.specs.Sheet.{chroma_of, distance², change, cross_of, dot_of, hue_change, shift}
-use Rattle.sheet.specs.Sheet.Bounds.{chroma_of-lt}
+use Rattle.sheet.proofs.Theorems.Sheet.Bounds.{chroma_of-lt}
 use Rattle.sheet.proofs.Fits.{L_back, a_back, b_back}
 use Rattle.comparison.proofs.shift.shift_with.Statement.{statement}
 use Rattle.comparison.proofs.shift.shift_with.Tie as tie

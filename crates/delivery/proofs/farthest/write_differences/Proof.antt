@@ -6,9 +6,9 @@ use borrow.Author.Rules.{rules}
 use lib.ListN.{length}
 use Rattle.cones.specs.Cones.{readings_of, colours_in}
 use Rattle.delivery.specs.Delivery.{differences_from}
-use Rattle.delivery.specs.Room.Laws.{Setting, setting_none, setting_more, setting_all}
-use Rattle.delivery.specs.Room.Laws.{room-count, room-enough, has-colour, cone_in_range, difference-small}
-use Rattle.delivery.specs.Room.Laws.{difference_at}
+use Rattle.delivery.proofs.Theorems.Room.Laws.{Setting, setting_none, setting_more, setting_all}
+use Rattle.delivery.proofs.Theorems.Room.Laws.{room-count, room-enough, has-colour, cone_in_range, difference-small}
+use Rattle.delivery.proofs.Theorems.Room.Laws.{difference_at}
 use Rattle.delivery.proofs.farthest.write_differences.Statement.{statement}
 use Rattle.delivery.proofs.farthest.write_differences.Tie as tie
 

@@ -2,17 +2,17 @@
 use Rattle.std.proofs.Common.{◌≡◌, ◌≤◌, length, arith, sym, ap, ◌∙◌}
 use Rattle.colour.specs.Conversion.Ranges.{OnGrid}
 use Rattle.colour.specs.Placed.{place}
-use Rattle.colour.specs.Placed.Laws.{place_on_grid}
+use Rattle.colour.proofs.Theorems.Placed.Laws.{place_on_grid}
 use Rattle.colour.specs.declared.conversion.GridColour.{GridColour}
 use Rattle.colour.specs.declared.placed.Placed.{Placed}
 use Rattle.colour.specs.declared.placed.Placed.TheVariants.{At}
 use Rattle.colour.specs.declared.placed.Reading.{Reading}
 use Rattle.colour.specs.declared.white.White.{White}
 use Rattle.cones.specs.Cones.{placed_turn, turn_in}
-use Rattle.cones.specs.Cones.Laws.{no_cones, one_more_cone, cone-refused, all_cones}
+use Rattle.cones.proofs.Theorems.Cones.Laws.{no_cones, one_more_cone, cone-refused, all_cones}
 use Rattle.delivery.specs.declared.mean.Summed.TheVariants.{Of}
 use Rattle.delivery.specs.Sums.{summed}
-use Rattle.delivery.specs.Sums.Laws.{no_sums, one_more_sum, sums_at_most}
+use Rattle.delivery.proofs.Theorems.Sums.Laws.{no_sums, one_more_sum, sums_at_most}
 use Rattle.delivery.proofs.mean.sum_of.Goals as goal
 
 pub loop-i-init : goal.loop-i-init

@@ -1,8 +1,8 @@
 -- The loop of `mean::sum_of` adds cones until one is refused (`SumsAre`). Assumes nothing.
 use Rattle.std.proofs.Common.{length, ◌-◌}
 use Rattle.cones.specs.Cones.{turn_in}
-use Rattle.cones.specs.Cones.Laws.{PassedCones}
-use Rattle.delivery.specs.Sums.Laws.{SumsAre}
+use Rattle.cones.proofs.Theorems.Cones.Laws.{PassedCones}
+use Rattle.delivery.proofs.Theorems.Sums.Laws.{SumsAre}
 use Rattle.delivery.proofs.mean.sum_of.Given as goal
 
 abbrev pub invariant-loop-i : goal.invariant-loop-i

@@ -2,7 +2,7 @@
 use Prim.Native.Nat.{◌*◌, ◌^◌, ◌≤◌}
 use native.Mathlib.Omega.{arith}
 use Rattle.rounding.specs.Signed.{∣◌∣}
-use Rattle.delivery.specs.Sums.Laws.{adds_fits, adds_is}
+use Rattle.delivery.proofs.Theorems.Sums.Laws.{adds_fits, adds_is}
 use Rattle.delivery.proofs.mean.with_colour.Statement.{statement}
 use Rattle.delivery.proofs.mean.with_colour.Tie as tie
 

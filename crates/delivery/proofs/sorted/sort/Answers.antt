@@ -1,6 +1,6 @@
 -- `sorted::sort` meets its contract: one law of `Sorted/Laws.antt` for each way out. Assumes nothing.
 use Rattle.std.proofs.Common.{sym, ◌∙◌}
-use Rattle.delivery.specs.Sorted.Laws.{call_in, sorts_misshapen, sorts_no_white, sorts_factor_out, sorts_in_turn}
+use Rattle.delivery.proofs.Theorems.Sorted.Laws.{call_in, sorts_misshapen, sorts_no_white, sorts_factor_out, sorts_in_turn}
 use Rattle.delivery.proofs.sorted.sort.Goals as goal
 
 pub returns-then-not-is_shaped : goal.returns-then-not-is_shaped

@@ -1,5 +1,5 @@
 -- `sorted::sort_in` meets its contract: one law of `Sorted/Ways.antt` for each way out. Assumes nothing.
-use Rattle.delivery.specs.Sorted.Ways.{gives_refused, can_share, has_room, gives_whole}
+use Rattle.delivery.proofs.Theorems.Sorted.Ways.{gives_refused, can_share, has_room, gives_whole}
 use Rattle.delivery.proofs.sorted.sort_in.Goals as goal
 
 pub returns-in-Refused : goal.returns-in-Refused

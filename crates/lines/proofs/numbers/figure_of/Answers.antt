@@ -2,9 +2,9 @@
 -- Assumes nothing.
 use Rattle.std.specs.Prelude.{◌≡◌, Bool, ◌&&◌, ℕ, ◌+◌, ◌*◌, ◌/◌, ◌%◌, ◌^◌, ltb}
 use Rattle.std.proofs.Common.{sym, ap, ap₂, ◌∙◌, arith}
-use Rattle.rounding.specs.Nearest.Laws.{nearest-add}
+use Rattle.rounding.proofs.Theorems.Nearest.Laws.{nearest-add}
 use Rattle.text.specs.Decimal.{shown}
-use Rattle.text.specs.Decimal.Laws.{shown_split}
+use Rattle.text.proofs.Theorems.Decimal.Laws.{shown_split}
 use Rattle.text.specs.declared.decimal.Shown.{Shown}
 use Rattle.lines.specs.Lines.{figure}
 use Rattle.lines.proofs.numbers.figure_of.Goals as goal

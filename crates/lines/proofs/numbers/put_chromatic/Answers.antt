@@ -2,7 +2,7 @@
 use Rattle.std.specs.Prelude.{ℕ, List, [], ◌∷◌}
 use Rattle.text.specs.Ascii.{ascii}
 use Rattle.text.specs.Put.{line}
-use Rattle.text.specs.Put.Laws.{room_for_all, room_first, room-second, puts_two, puts_joined}
+use Rattle.text.proofs.Theorems.Put.Laws.{room_for_all, room_first, room-second, puts_two, puts_joined}
 use Rattle.lines.proofs.numbers.put_chromatic.Goals as goal
 
 abbrev pieces : List ℕ → List (List ℕ)

@@ -3,7 +3,7 @@ use Rattle.std.specs.Prelude.{ℕ, List, [], ◌∷◌}
 use Rattle.text.specs.Ascii.{ascii}
 use Rattle.text.specs.Decimal.{decimal_text}
 use Rattle.text.specs.Put.{line}
-use Rattle.text.specs.Put.Laws.{room_for_all, room_first, room-second, room-third, puts_three, puts_joined}
+use Rattle.text.proofs.Theorems.Put.Laws.{room_for_all, room_first, room-second, room-third, puts_three, puts_joined}
 use Rattle.text.specs.declared.decimal.Shown.{Shown}
 use Rattle.lines.proofs.numbers.put_number.Goals as goal
 

@@ -1,5 +1,5 @@
 -- Five pieces, one after the other. Assumes nothing.
-use Rattle.text.specs.Put.Laws.{room_for_all, room-rest, puts_more, puts_four, puts_joined}
+use Rattle.text.proofs.Theorems.Put.Laws.{room_for_all, room-rest, puts_more, puts_four, puts_joined}
 use Rattle.lines.specs.Lines.Laws.{axes_pieces}
 use Rattle.lines.proofs.words.put_axes.Goals as goal
 

@@ -1,8 +1,8 @@
 -- Five pieces, one after the other. Assumes nothing.
 use Rattle.std.proofs.Common.{List, ℕ}
 use Rattle.text.specs.Put.{Room}
-use Rattle.text.specs.Put.Laws.{RoomForAll, room_for_all, room_first, room-second, room-third, room-fourth, room-rest}
-use Rattle.text.specs.Put.Laws.{puts_more, puts_four, puts_joined}
+use Rattle.text.proofs.Theorems.Put.Laws.{RoomForAll, room_for_all, room_first, room-second, room-third, room-fourth, room-rest}
+use Rattle.text.proofs.Theorems.Put.Laws.{puts_more, puts_four, puts_joined}
 use Rattle.printing.specs.Printed.{refusal_pieces, refusal_line}
 use Rattle.printing.proofs.refusal.put_refusal.Goals as goal
 

@@ -1,6 +1,6 @@
 -- The float of one's units is that of 2 ^ 20, so the quotient is `value_of`. Assumes nothing.
 use Rattle.std.proofs.Common.{pos, rules}
-use Rattle.reading.specs.Grid.Laws.{value_is}
+use Rattle.reading.proofs.Theorems.Grid.Laws.{value_is}
 use Rattle.reading.proofs.grid.value_of.Statement.{statement}
 use Rattle.reading.proofs.grid.value_of.Tie as tie
 

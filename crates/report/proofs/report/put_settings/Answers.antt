@@ -4,8 +4,8 @@ use Rattle.sheet.specs.declared.settings.Settings.{Settings}
 use Rattle.text.specs.declared.decimal.Shown.{Shown}
 use Rattle.lines.specs.Lines.{thousandths}
 use Rattle.text.specs.Put.{Room, joined}
-use Rattle.text.specs.Put.Laws.{RoomForAll, room_as, puts_as, room_for_all, room_first, room-second, room-third}
-use Rattle.text.specs.Put.Laws.{room-fourth, puts_four, puts_joined}
+use Rattle.text.proofs.Theorems.Put.Laws.{RoomForAll, room_as, puts_as, room_for_all, room_first, room-second, room-third}
+use Rattle.text.proofs.Theorems.Put.Laws.{room-fourth, puts_four, puts_joined}
 use Rattle.report.specs.Report.{setting_lines}
 use Rattle.report.specs.Report.Laws.{settings_shown, settings-shown}
 use Rattle.report.proofs.report.put_settings.Goals as goal

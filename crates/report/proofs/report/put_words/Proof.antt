@@ -1,6 +1,6 @@
 -- Four lines, one after the other. Assumes nothing.
 use borrow.Author.Rules.{rules}
-use Rattle.text.specs.Put.Laws.{room_for_all, room_first, room-second, room-third, room-fourth, puts_four, puts_joined}
+use Rattle.text.proofs.Theorems.Put.Laws.{room_for_all, room_first, room-second, room-third, room-fourth, puts_four, puts_joined}
 use Rattle.report.specs.Report.{word_lines}
 use Rattle.report.proofs.report.put_words.Statement.{statement}
 use Rattle.report.proofs.report.put_words.Tie as tie

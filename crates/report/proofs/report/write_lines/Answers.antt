@@ -2,7 +2,7 @@
 use Rattle.std.proofs.Common.{List, ℕ}
 use Rattle.standard.specs.declared.judge.Judgement.{Judgement}
 use Rattle.text.specs.Put.{Room}
-use Rattle.text.specs.Put.Laws.{RoomForAll, room_for_all, room_first, room-second, room-third, puts_three}
+use Rattle.text.proofs.Theorems.Put.Laws.{RoomForAll, room_for_all, room_first, room-second, room-third, puts_three}
 use Rattle.report.specs.Report.{report_parts, report_text}
 use Rattle.report.proofs.report.write_lines.Goals as goal
 

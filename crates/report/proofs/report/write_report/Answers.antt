@@ -1,7 +1,7 @@
 -- With too little room nothing is written. Otherwise the part from the column on is lent to the line writer, and comes
 -- back with the report at its start. Assumes nothing.
 use Rattle.std.proofs.Common.{List, ◌++◌, ℕ, ◌-◌, length, take, drop, sym, ap, ◌∙◌, arith}
-use Rattle.text.specs.Put.Laws.{part-put}
+use Rattle.text.proofs.Theorems.Put.Laws.{part-put}
 use Rattle.report.specs.Report.{report_text}
 use Rattle.report.specs.Write.Laws.{write_number_zero, write_room_put, write_number_ten, write_room_kept}
 use Rattle.report.proofs.report.write_report.Goals as goal

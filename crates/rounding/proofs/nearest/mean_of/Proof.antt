@@ -6,7 +6,7 @@ use borrow.Author.Rules.{rules}
 use mir.Syntax.{w64}
 use mir.Val.{to_z, of_z}
 use mir.Facts.{to_z-of_z}
-use Rattle.rounding.specs.Mean.Laws.{mean_by}
+use Rattle.rounding.proofs.Theorems.Mean.Laws.{mean_by}
 use Rattle.rounding.specs.Signed.{∣◌∣}
 use Rattle.rounding.proofs.nearest.mean_of.Statement.{statement}
 use Rattle.rounding.proofs.nearest.mean_of.Tie as tie

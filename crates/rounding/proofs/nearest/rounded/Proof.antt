@@ -7,7 +7,7 @@ use borrow.Author.Rules.{rules}
 use mir.Syntax.{w64}
 use mir.Val.{to_z, of_z}
 use Rattle.rounding.specs.Signed.{signed}
-use Rattle.rounding.specs.Nearest.Laws.{nearest-add}
+use Rattle.rounding.proofs.Theorems.Nearest.Laws.{nearest-add}
 use Rattle.rounding.proofs.nearest.rounded.Statement.{statement}
 use Rattle.rounding.proofs.nearest.rounded.Tie as tie
 

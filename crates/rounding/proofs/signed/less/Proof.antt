@@ -4,7 +4,7 @@ use lib.IntN.{◌-ℤ◌}
 use mir.Syntax.{w64}
 use mir.Val.{SFits}
 use mir.Facts.{to_z-of_z}
-use Rattle.rounding.specs.Signed.Laws.{fits_of_abs}
+use Rattle.rounding.proofs.Theorems.Signed.Laws.{fits_of_abs}
 use Rattle.rounding.proofs.signed.less.Statement.{statement}
 use Rattle.rounding.proofs.signed.less.Tie as tie
 

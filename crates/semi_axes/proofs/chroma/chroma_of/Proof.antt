@@ -2,7 +2,7 @@
 -- Assumes nothing.
 use mathlib.Core.Path.{sym, ap, ap₂, ◌∙◌}
 use borrow.Author.Rules.{rules}
-use Rattle.colour.specs.Conversion.Places.{at_places_20}
+use Rattle.colour.proofs.Theorems.Conversion.Places.{at_places_20}
 use Rattle.sheet.specs.Sheet.{chroma, chroma_of}
 use Rattle.sheet.proofs.Fits.{a_back, b_back}
 use Rattle.semi_axes.proofs.chroma.chroma_of.Statement.{statement}

@@ -3,7 +3,7 @@ use mathlib.Core.Path.{◌≡◌, ap, ap₂, ◌∙◌}
 use borrow.Author.Rules.{rules}
 use mir.Facts.{to_z-of_z}
 use Rattle.sheet.specs.Sheet.{hue_q, hue_w, hue_f}
-use Rattle.sheet.specs.Sheet.Laws.{hue_q-le, hue_w-pos}
+use Rattle.sheet.proofs.Theorems.Sheet.Laws.{hue_q-le, hue_w-pos}
 use Rattle.semi_axes.proofs.hue.hue_f_of.Statement.{statement}
 use Rattle.semi_axes.proofs.hue.hue_f_of.Tie as tie
 

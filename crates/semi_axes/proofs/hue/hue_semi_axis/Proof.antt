@@ -6,8 +6,8 @@ use native.Mathlib.Omega.{arith}
 use borrow.Author.Rules.{rules}
 use mir.Facts.{to_z-of_z}
 use Rattle.sheet.specs.Sheet.{second_form, hue_q, hue_w, hue_f, hue_m, hue_t, hue_p, hue_g, semi_axis_h}
-use Rattle.sheet.specs.Sheet.Laws.{neutral_of_chroma, chromatic_of_chroma, hue_f-le, hue_t_of_le, hue_semi_axis-neutral}
-use Rattle.sheet.specs.Sheet.Laws.{hue_semi_axis-chromatic}
+use Rattle.sheet.proofs.Theorems.Sheet.Laws.{neutral_of_chroma, chromatic_of_chroma, hue_f-le, hue_t_of_le, hue_semi_axis-neutral}
+use Rattle.sheet.proofs.Theorems.Sheet.Laws.{hue_semi_axis-chromatic}
 use Rattle.semi_axes.proofs.hue.hue_semi_axis.Statement.{statement}
 use Rattle.semi_axes.proofs.hue.hue_semi_axis.Tie as tie
 

@@ -5,7 +5,7 @@ use Prim.Native.Nat.{ℕ}
 use borrow.Author.Rules.{rules}
 use mir.Facts.{to_z-of_z}
 use Rattle.sheet.specs.Sheet.{second_form, hue_m, hue_t}
-use Rattle.sheet.specs.Sheet.Laws.{chroma-lt, hue_m-le}
+use Rattle.sheet.proofs.Theorems.Sheet.Laws.{chroma-lt, hue_m-le}
 use Rattle.semi_axes.proofs.hue.hue_t_of.Statement.{statement}
 use Rattle.semi_axes.proofs.hue.hue_t_of.Tie as tie
 

@@ -5,7 +5,7 @@ use native.Mathlib.Omega.{arith}
 use borrow.Author.Rules.{rules}
 use mir.Facts.{to_z-of_z}
 use Rattle.sheet.specs.Sheet.{chroma, semi_axis_c94, semi_axis_h94, semi_axes_cie94}
-use Rattle.sheet.specs.Sheet.Laws.{chroma-lt}
+use Rattle.sheet.proofs.Theorems.Sheet.Laws.{chroma-lt}
 use Rattle.semi_axes.proofs.semi_axes.semi_axes_cie94.Statement.{statement}
 use Rattle.semi_axes.proofs.semi_axes.semi_axes_cie94.Tie as tie
 

@@ -4,7 +4,7 @@ use native.Mathlib.Omega.{arith}
 use borrow.Author.Rules.{rules}
 use mir.Facts.{to_z-of_z}
 use Rattle.sheet.specs.Sheet.{chroma, semi_axis_c, hue_semi_axis, semi_axes_cmc}
-use Rattle.sheet.specs.Sheet.Laws.{chroma-lt, semi_axis_c-le}
+use Rattle.sheet.proofs.Theorems.Sheet.Laws.{chroma-lt, semi_axis_c-le}
 use Rattle.semi_axes.proofs.semi_axes.semi_axes_cmc.Statement.{statement}
 use Rattle.semi_axes.proofs.semi_axes.semi_axes_cmc.Tie as tie
 

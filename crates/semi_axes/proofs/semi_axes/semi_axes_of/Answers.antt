@@ -3,7 +3,7 @@
 use Rattle.std.proofs.Common.{◌≡◌, ap, ◌∙◌}
 use Rattle.std.specs.Prelude.{ℤ}
 use Rattle.rounding.specs.Signed.{∣◌∣}
-use Rattle.colour.specs.Conversion.Places.{at_places_20}
+use Rattle.colour.proofs.Theorems.Conversion.Places.{at_places_20}
 use Rattle.sheet.specs.Sheet.{semi_axes}
 use Rattle.sheet.proofs.Fits.{L_back, a_back, b_back}
 use Rattle.semi_axes.proofs.semi_axes.semi_axes_of.Goals as goal

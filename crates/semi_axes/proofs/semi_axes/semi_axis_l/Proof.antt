@@ -1,7 +1,7 @@
 -- `semi_axes::semi_axis_l` meets its contract: each way out is one branch of line 3. Assumes nothing.
 use borrow.Author.Rules.{rules}
 use mathlib.Core.Path.{sym}
-use Rattle.sheet.specs.Sheet.Laws.{semi_axis_l-dark, semi_axis_l-light}
+use Rattle.sheet.proofs.Theorems.Sheet.Laws.{semi_axis_l-dark, semi_axis_l-light}
 use Rattle.semi_axes.proofs.semi_axes.semi_axis_l.Statement.{statement}
 use Rattle.semi_axes.proofs.semi_axes.semi_axis_l.Tie as tie
 

@@ -1,6 +1,6 @@
 -- `settings::is_within` meets its contract: the test at each end is the definition's. Assumes nothing.
 use mathlib.Core.Path.{sym}
-use Rattle.sheet.specs.Settings.Laws.{within_below, within_not_below}
+use Rattle.sheet.proofs.Theorems.Settings.Laws.{within_below, within_not_below}
 use Rattle.sheet.proofs.settings.is_within.Statement.{statement}
 use Rattle.sheet.proofs.settings.is_within.Tie as tie
 

@@ -6,7 +6,7 @@ use mir.Syntax.{w64}
 use mir.Val.{to_z, of_z}
 use mir.Facts.{to_z-of_z}
 use Rattle.rounding.specs.Signed.{∣◌∣}
-use Rattle.rounding.specs.Signed.Laws.{zero_of_abs}
+use Rattle.rounding.proofs.Theorems.Signed.Laws.{zero_of_abs}
 use Rattle.sheet.specs.Sheet.{same_hue}
 use Rattle.sheet.proofs.shift.same_hue.Statement.{statement}
 use Rattle.sheet.proofs.shift.same_hue.Tie as tie

@@ -1,7 +1,7 @@
 -- `verdict::apart` meets its contract: one of the two differences is 0 (`abs-change`). Assumes nothing.
 use native.Mathlib.Omega.{arith}
 use borrow.Author.Rules.{rules}
-use Rattle.sheet.specs.Sheet.Laws.{abs-change}
+use Rattle.sheet.proofs.Theorems.Sheet.Laws.{abs-change}
 use Rattle.sheet.proofs.verdict.apart.Statement.{statement}
 use Rattle.sheet.proofs.verdict.apart.Tie as tie
 

@@ -1,7 +1,7 @@
 -- `verdict::compare` meets its contract: each way out is one case of the rule. Assumes nothing.
 use mathlib.Core.Path.{sym}
 use borrow.Author.Rules.{rules}
-use Rattle.sheet.specs.Sheet.Laws.{compared-near, compared-pass, compared-fail}
+use Rattle.sheet.proofs.Theorems.Sheet.Laws.{compared-near, compared-pass, compared-fail}
 use Rattle.sheet.proofs.verdict.compare.Statement.{statement}
 use Rattle.sheet.proofs.verdict.compare.Tie as tie
 

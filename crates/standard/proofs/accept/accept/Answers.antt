@@ -1,7 +1,7 @@
 -- `accept::accept` meets its contract: one law of `Acceptance/Laws.antt` for each way out. Assumes nothing.
 use Rattle.std.proofs.Common.{sym, ap, ◌∙◌}
 use Rattle.standard.specs.Acceptance.{acceptance}
-use Rattle.standard.specs.Acceptance.Laws.{settings-refused, reference-refused, is_accepted}
+use Rattle.standard.proofs.Theorems.Acceptance.Laws.{settings-refused, reference-refused, is_accepted}
 use Rattle.standard.proofs.accept.accept.Goals as goal
 
 pub returns-then-n-ne0 : goal.returns-then-n-ne0

@@ -3,7 +3,7 @@ use mathlib.Core.Path.{◌≡◌, sym, ◌∙◌}
 use mathlib.Core.Bool.{true}
 use borrow.Author.Rules.{rules}
 use Rattle.sheet.specs.Settings.{is_factor}
-use Rattle.standard.specs.Acceptance.Laws.{l_out, c_out, tolerance_out, all_in}
+use Rattle.standard.proofs.Theorems.Acceptance.Laws.{l_out, c_out, tolerance_out, all_in}
 use Rattle.standard.proofs.accept.range_refusal.Statement.{statement}
 use Rattle.standard.proofs.accept.range_refusal.Tie as tie
 

@@ -1,5 +1,5 @@
 -- `accept::settings_of` meets its contract: one law of `Acceptance/Numbers.antt` for each way out. Assumes nothing.
-use Rattle.standard.specs.Acceptance.Numbers.{no_formula_lem, no_white_lem, both_named}
+use Rattle.standard.proofs.Theorems.Acceptance.Numbers.{no_formula_lem, no_white_lem, both_named}
 use Rattle.standard.proofs.accept.settings_of.Goals as goal
 
 pub returns-in-Unknown : goal.returns-in-Unknown

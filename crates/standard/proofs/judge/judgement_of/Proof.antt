@@ -11,7 +11,7 @@ use Rattle.sheet.specs.declared.comparison.Comparison.{Comparison}
 use Rattle.sheet.specs.declared.scaled.Scaled.{Scaled}
 use Rattle.sheet.specs.declared.verdict.Verdict.{Verdict}
 use Rattle.names.specs.Names.{lightness_name, chroma_name, hue_named, hue_name, withheld_by}
-use Rattle.names.specs.Names.Laws.{hue_of_comparison}
+use Rattle.names.proofs.Theorems.Names.Laws.{hue_of_comparison}
 use Rattle.names.specs.declared.Lightness.{Lightness}
 use Rattle.names.specs.declared.Chroma.{Chroma}
 use Rattle.names.specs.declared.Hue.{Hue}

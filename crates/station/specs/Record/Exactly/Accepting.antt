@@ -12,7 +12,7 @@ use Rattle.colour.specs.declared.white.White.TheVariants.{D65Ten, D65Two, CTen, 
 use Rattle.colour.specs.declared.white.Numbered.{Numbered}
 use Rattle.colour.specs.declared.white.Numbered.TheVariants as W
 use Rattle.sheet.specs.Settings.{formula_numbered, within, is_factor, is_tolerance}
-use Rattle.sheet.specs.Settings.Laws.{within_in, within_true}
+use Rattle.sheet.proofs.Theorems.Settings.Laws.{within_in, within_true}
 use Rattle.sheet.specs.declared.formula.Formula.{Formula}
 use Rattle.sheet.specs.declared.formula.Formula.TheVariants.{CIELAB, CIE94, CMC}
 use Rattle.sheet.specs.declared.formula.NumberedFormula.{NumberedFormula}
@@ -20,8 +20,8 @@ use Rattle.sheet.specs.declared.formula.NumberedFormula.TheVariants as F
 use Rattle.sheet.specs.declared.settings.Settings.{Settings}
 use Rattle.standard.specs.Refusals.{number_at, first_of, refusal}
 use Rattle.standard.specs.Acceptance.{named, settings_of, range_faults, acceptance}
-use Rattle.standard.specs.Acceptance.Laws.{l_out, c_out, tolerance_out as tolerance-off, all_in}
-use Rattle.standard.specs.Acceptance.Laws.{settings-refused, reference-refused, is_accepted}
+use Rattle.standard.proofs.Theorems.Acceptance.Laws.{l_out, c_out, tolerance_out as tolerance-off, all_in}
+use Rattle.standard.proofs.Theorems.Acceptance.Laws.{settings-refused, reference-refused, is_accepted}
 use Rattle.standard.specs.declared.accept.SettingsOf.{SettingsOf}
 use Rattle.standard.specs.declared.accept.SettingsOf.TheVariants as S
 use Rattle.standard.specs.declared.accept.Acceptance.{Acceptance}

@@ -6,7 +6,7 @@ use Rattle.std.proofs.Math.Bool.{true, false, cond}
 use Rattle.std.proofs.lemmas.Bool.{eqb-false}
 use Rattle.rounding.specs.Signed.{∣◌∣, minus}
 use Rattle.reading.specs.Reading.{range_of, is_within}
-use Rattle.reading.specs.Reading.Laws.{is_lightness_lem, is_opponent_lem}
+use Rattle.reading.proofs.Theorems.Reading.Laws.{is_lightness_lem, is_opponent_lem}
 use Rattle.reading.specs.declared.quantity.Quantity.TheVariants.{Lightness, Opponent}
 use Rattle.colour.specs.Conversion.{on_grid}
 use Rattle.colour.specs.Conversion.Ranges.{OnGrid}

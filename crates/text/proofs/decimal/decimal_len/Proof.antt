@@ -4,7 +4,7 @@ use native.Mathlib.Omega.{arith}
 use borrow.Author.Rules.{rules}
 use lib.ListN.{length}
 use Rattle.text.specs.Decimal.{width, minus_sign}
-use Rattle.text.specs.Decimal.Laws.{last_digits_length, decimal-length}
+use Rattle.text.proofs.Theorems.Decimal.Laws.{last_digits_length, decimal-length}
 use Rattle.text.proofs.decimal.decimal_len.Statement.{statement}
 use Rattle.text.proofs.decimal.decimal_len.Tie as tie
 

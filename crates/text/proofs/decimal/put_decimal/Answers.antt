@@ -1,6 +1,6 @@
 -- The four pieces of the decimal are put one after the other. Assumes nothing.
-use Rattle.text.specs.Put.Laws.{room_for_all, room_first, room-second, room-third, room-fourth, puts_four}
-use Rattle.text.specs.Put.Laws.{puts_joined}
+use Rattle.text.proofs.Theorems.Put.Laws.{room_for_all, room_first, room-second, room-third, room-fourth, puts_four}
+use Rattle.text.proofs.Theorems.Put.Laws.{puts_joined}
 use Rattle.text.specs.Decimal.{decimal_pieces, decimal_text}
 use Rattle.text.proofs.decimal.put_decimal.Goals as goal
 

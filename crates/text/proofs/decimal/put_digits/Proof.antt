@@ -6,9 +6,9 @@ use native.Mathlib.Omega.{arith}
 use native.Mathlib.Nat.{add-zero, sub-zero, div-one}
 use lib.ListN.{length, set, length-set}
 use Rattle.text.specs.Put.{put_at, Puts}
-use Rattle.text.specs.Put.Laws.{put_before, put-nil}
+use Rattle.text.proofs.Theorems.Put.Laws.{put_before, put-nil}
 use Rattle.text.specs.Decimal.{last_digits}
-use Rattle.text.specs.Decimal.Laws.{last_digits_zero, last_digits_more, last_digits_length, div_pow_more}
+use Rattle.text.proofs.Theorems.Decimal.Laws.{last_digits_zero, last_digits_more, last_digits_length, div_pow_more}
 use Rattle.text.proofs.decimal.put_digits.Statement.{statement}
 use Rattle.text.proofs.decimal.put_digits.Tie as tie
 

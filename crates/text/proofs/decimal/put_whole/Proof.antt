@@ -4,8 +4,8 @@ use Prim.Native.Nat.{ℕ}
 use borrow.Author.Rules.{rules}
 use lib.ListN.{length}
 use Rattle.text.specs.Decimal.{width, last_digits, whole_text}
-use Rattle.text.specs.Decimal.Laws.{last_digits_length}
-use Rattle.text.specs.Put.Laws.{room_as, puts_as}
+use Rattle.text.proofs.Theorems.Decimal.Laws.{last_digits_length}
+use Rattle.text.proofs.Theorems.Put.Laws.{room_as, puts_as}
 use Rattle.text.proofs.decimal.put_whole.Statement.{statement}
 use Rattle.text.proofs.decimal.put_whole.Tie as tie
 

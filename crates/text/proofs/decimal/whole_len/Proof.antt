@@ -3,7 +3,7 @@ use mathlib.Core.Path.{◌≡◌}
 use Prim.Native.Nat.{◌+◌, ◌^◌, ◌≤◌, ◌<◌}
 use native.Mathlib.Omega.{arith}
 use Rattle.text.specs.Decimal.{width}
-use Rattle.text.specs.Decimal.Laws.{last_digits_length, width_small, width_more, width-le}
+use Rattle.text.proofs.Theorems.Decimal.Laws.{last_digits_length, width_small, width_more, width-le}
 use Rattle.text.proofs.decimal.whole_len.Statement.{statement}
 use Rattle.text.proofs.decimal.whole_len.Tie as tie
 

@@ -7,7 +7,7 @@ use native.Mathlib.Nat.{le_antisymm}
 use native.Mathlib.Numerals.{add-one}
 use lib.ListN.{length, get_or, set, length-set}
 use lib.Seq.{paste, paste-zero, paste-suc}
-use Rattle.text.specs.Put.Laws.{paste_is_put}
+use Rattle.text.proofs.Theorems.Put.Laws.{paste_is_put}
 use Rattle.text.proofs.put.put.Statement.{statement}
 use Rattle.text.proofs.put.put.Tie as tie
 

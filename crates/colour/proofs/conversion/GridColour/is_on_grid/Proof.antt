@@ -1,7 +1,7 @@
 -- `GridColour::is_on_grid` meets its contract: one law of `Conversion/Laws.antt` for each way out. Assumes nothing.
 use mathlib.Core.Path.{sym, ◌∙◌}
 use borrow.Author.Rules.{rules}
-use Rattle.colour.specs.Conversion.Laws.{off_grid_L, off_grid_a, on_grid_b}
+use Rattle.colour.proofs.Theorems.Conversion.Laws.{off_grid_L, off_grid_a, on_grid_b}
 use Rattle.colour.proofs.conversion.GridColour.is_on_grid.Statement.{statement}
 use Rattle.colour.proofs.conversion.GridColour.is_on_grid.Tie as tie
 

@@ -1,6 +1,6 @@
 -- `Grid::is_lightness` meets its contract: below zero it is none, else its magnitude decides. Assumes nothing.
 use Rattle.std.proofs.Common.{◌≡◌, ℤ, sym, ◌∙◌, w64, to_z, of_z, rules}
-use Rattle.reading.specs.Reading.Laws.{below_lightness, is_lightness_lem}
+use Rattle.reading.proofs.Theorems.Reading.Laws.{below_lightness, is_lightness_lem}
 use Rattle.reading.proofs.grid.Grid.is_lightness.Statement.{statement}
 use Rattle.reading.proofs.grid.Grid.is_lightness.Tie as tie
 

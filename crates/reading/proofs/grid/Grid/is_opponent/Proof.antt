@@ -1,6 +1,6 @@
 -- `Grid::is_opponent` meets its contract: both ends are 256, so its magnitude decides. Assumes nothing.
 use Rattle.std.proofs.Common.{sym, ◌∙◌, rules}
-use Rattle.reading.specs.Reading.Laws.{is_opponent_lem}
+use Rattle.reading.proofs.Theorems.Reading.Laws.{is_opponent_lem}
 use Rattle.reading.proofs.grid.Grid.is_opponent.Statement.{statement}
 use Rattle.reading.proofs.grid.Grid.is_opponent.Tie as tie
 

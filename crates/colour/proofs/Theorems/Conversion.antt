@@ -1,0 +1,4 @@
+-- Theorems on `specs/Conversion.antt`.
+pub mod Cases
+pub mod Laws
+pub mod Places

@@ -1,0 +1,3 @@
+-- Theorems on `specs/Placed/Exactly.antt`.
+pub mod Laws
+pub mod Ways

@@ -1,0 +1,3 @@
+-- Theorems on the definitions of `specs/`, file by file: the laws that callers go by, what a reader may ask, cases.
+pub mod Cones
+pub mod InTurn

@@ -1,0 +1,2 @@
+-- Theorems on `specs/Cones.antt`.
+pub mod Laws

@@ -1,0 +1,3 @@
+-- Theorems on `specs/InTurn.antt`.
+pub mod Cases
+pub mod Laws

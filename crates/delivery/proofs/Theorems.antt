@@ -1,0 +1,6 @@
+-- Theorems on the definitions of `specs/`, file by file: the laws that callers go by, what a reader may ask, cases.
+pub mod Delivery
+pub mod Farthest
+pub mod Room
+pub mod Sorted
+pub mod Sums

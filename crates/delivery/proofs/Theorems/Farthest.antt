@@ -1,0 +1,2 @@
+-- Theorems on `specs/Farthest.antt`.
+pub mod Laws

@@ -1,0 +1,2 @@
+-- Theorems on `specs/Room.antt`.
+pub mod Laws

@@ -1,0 +1,2 @@
+-- Theorems on `specs/Sums.antt`.
+pub mod Laws

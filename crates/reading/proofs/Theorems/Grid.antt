@@ -1,0 +1,2 @@
+-- Theorems on `specs/Grid.antt`.
+pub mod Laws

@@ -1,0 +1,3 @@
+-- Theorems on `specs/Reading.antt`.
+pub mod Cases
+pub mod Laws

@@ -1,0 +1,2 @@
+-- Theorems on `specs/Mean.antt`.
+pub mod Laws

@@ -1,0 +1,2 @@
+-- Theorems on `specs/Nearest.antt`.
+pub mod Laws

@@ -1,0 +1,2 @@
+-- Theorems on `specs/Root.antt`.
+pub mod Laws

@@ -1,0 +1,3 @@
+-- Theorems on `specs/Signed.antt`.
+pub mod Difference
+pub mod Laws

@@ -1,0 +1,2 @@
+-- Theorems on `specs/Settings.antt`.
+pub mod Laws

@@ -1,0 +1,5 @@
+-- Theorems on the definitions of `specs/`, file by file: the laws that callers go by, what a reader may ask, cases.
+pub mod Acceptance
+pub mod Figures
+pub mod Judgement
+pub mod Refusals

@@ -1,0 +1,3 @@
+-- Theorems on `specs/Acceptance.antt`.
+pub mod Laws
+pub mod Numbers

@@ -1,0 +1,2 @@
+-- Theorems on `specs/Figures.antt`.
+pub mod Exact

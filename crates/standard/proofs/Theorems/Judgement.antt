@@ -1,0 +1,3 @@
+-- Theorems on `specs/Judgement.antt`.
+pub mod Laws
+pub mod Withheld

@@ -1,0 +1,2 @@
+-- Theorems on `specs/Refusals.antt`.
+pub mod Laws

@@ -1,0 +1,2 @@
+-- Theorems on `specs/Bytes.antt`.
+pub mod Parts

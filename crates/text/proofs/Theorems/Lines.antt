@@ -1,0 +1,2 @@
+-- Theorems on `specs/Lines.antt`.
+pub mod Laws

@@ -1,0 +1,2 @@
+-- Theorems on `specs/Number.antt`.
+pub mod Written

@@ -1,0 +1,2 @@
+-- Theorems on `specs/Put.antt`.
+pub mod Laws

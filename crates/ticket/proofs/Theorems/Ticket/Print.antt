@@ -1,0 +1,2 @@
+-- Theorems on `specs/Ticket/Print.antt`.
+pub mod Laws
