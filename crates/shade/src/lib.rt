@@ -1,5 +1,6 @@
 // The C entries of libshade.a, one call each. include/shade.h says the same for C.
 #![tactic(auto)]
+
 ghost use Rattle.std.specs.Prelude.{◌≡◌};
 ghost use Rattle.shade.specs.Version.{version};
 ghost use Rattle.colour.specs.declared.placed.Reading.TheVariants.{Xyz, Lab};
