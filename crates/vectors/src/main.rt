@@ -83,21 +83,21 @@ fn paper(j: usize) -> Paper
 
 fn say_figures(rt: &impl Print, found: Found, paper: Paper) -> io::Result<()> {
     match found {
-        Found::Nothing => say::text(rt, "  REFUSED\n"),
+        Found::Nothing => say::text(rt, b"  REFUSED\n"),
         Found::Pair(d, _, _) => say::figures(rt, d, paper),
     }
 }
 
 fn say_words(rt: &impl Print, found: Found) -> io::Result<()> {
     match found {
-        Found::Nothing => say::text(rt, "  REFUSED\n"),
+        Found::Nothing => say::text(rt, b"  REFUSED\n"),
         Found::Pair(_, chroma, hue) => say::words(rt, chroma, hue),
     }
 }
 
 fn say_total(rt: &impl Print, found: Found, paper: i64) -> io::Result<()> {
     match found {
-        Found::Nothing => say::text(rt, "  REFUSED\n"),
+        Found::Nothing => say::text(rt, b"  REFUSED\n"),
         Found::Pair(d, _, _) => say::total(rt, d, paper),
     }
 }
@@ -107,7 +107,7 @@ fn table_2(rt: &impl Print, i: usize) -> io::Result<()> {
     if 10 <= i {
         return Ok(());
     }
-    say::text(rt, "Table 2, pair ")?;
+    say::text(rt, b"Table 2, pair ")?;
     say::number(rt, i as u64 + 1)?;
     let found = find(Formula::CMC, xyz(6 * i), xyz(6 * i + 3));
     say_figures(rt, found, paper(4 * i))
@@ -121,7 +121,7 @@ fn figure_1(rt: &impl Print, i: usize) -> io::Result<()> {
     let k = 4 * i;
     let reference = lab(5000, FIGURE_1[k], FIGURE_1[k + 1]);
     let test = lab(5000, FIGURE_1[k + 2], FIGURE_1[k + 3]);
-    say::text(rt, "Figure 1, statement ")?;
+    say::text(rt, b"Figure 1, statement ")?;
     say::number(rt, i as u64 + 1)?;
     say_words(rt, find(Formula::CMC, reference, test))
 }
@@ -133,9 +133,9 @@ fn document_002(rt: &impl Print) -> io::Result<()> {
         lab(5368, -920, -3656),
         lab(5490, -1002, -3550),
     );
-    say::text(rt, "Document 002")?;
+    say::text(rt, b"Document 002")?;
     say_total(rt, found, 18100)?;
-    say::text(rt, "Document 002")?;
+    say::text(rt, b"Document 002")?;
     say_words(rt, found)
 }
 

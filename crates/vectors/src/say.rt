@@ -7,8 +7,8 @@ use rounding::signed::magnitude;
 use sheet::differences::Differences;
 use std::io;
 
-pub(crate) fn text(rt: &impl Print, s: &str) -> io::Result<()> {
-    rt.print(s)
+pub(crate) fn text(rt: &impl Print, s: &[u8]) -> io::Result<()> {
+    rt.write_all(s)
 }
 
 pub(crate) fn number(rt: &impl Print, n: u64) -> io::Result<()> {
@@ -20,14 +20,14 @@ fn digit(rt: &impl Print, d: u64) -> io::Result<()> {
 }
 
 // A figure of grid units, as a report has it.
-fn figure(rt: &impl Print, key: &str, z: i64) -> io::Result<()> {
+fn figure(rt: &impl Print, key: &[u8], z: i64) -> io::Result<()> {
     let d = signed_figure(z);
     text(rt, key)?;
     if d.minus {
-        text(rt, "-")?;
+        text(rt, b"-")?;
     }
     number(rt, d.whole)?;
-    text(rt, ".")?;
+    text(rt, b".")?;
     digit(rt, d.units / 1000)?;
     digit(rt, d.units / 100)?;
     digit(rt, d.units / 10)?;
@@ -50,19 +50,19 @@ fn agrees(z: i64, paper: i64) -> bool {
 
 fn verdict(rt: &impl Print, agreed: bool) -> io::Result<()> {
     if agreed {
-        text(rt, "  within 0.01\n")
+        text(rt, b"  within 0.01\n")
     } else {
-        text(rt, "  DIFFERS\n")
+        text(rt, b"  DIFFERS\n")
     }
 }
 
 // Four figures, and whether each is the paper's to 0.01 and with its sign.
 pub(crate) fn figures(rt: &impl Print, d: Differences, paper: Paper) -> io::Result<()> {
     let de = (d.DE % 4294967296) as i64;
-    figure(rt, "  DL ", d.DL)?;
-    figure(rt, "  DC ", d.DC)?;
-    figure(rt, "  DH ", d.DH)?;
-    figure(rt, "  DE ", de)?;
+    figure(rt, b"  DL ", d.DL)?;
+    figure(rt, b"  DC ", d.DC)?;
+    figure(rt, b"  DH ", d.DH)?;
+    figure(rt, b"  DE ", de)?;
     if agrees(d.DL, paper.DL) {
         if agrees(d.DC, paper.DC) {
             if agrees(d.DH, paper.DH) {
@@ -76,36 +76,36 @@ pub(crate) fn figures(rt: &impl Print, d: Differences, paper: Paper) -> io::Resu
 // DE alone, and whether it is the paper's to 0.01.
 pub(crate) fn total(rt: &impl Print, d: Differences, paper: i64) -> io::Result<()> {
     let de = (d.DE % 4294967296) as i64;
-    figure(rt, "  DH ", d.DH)?;
-    figure(rt, "  DE ", de)?;
+    figure(rt, b"  DH ", d.DH)?;
+    figure(rt, b"  DE ", de)?;
     verdict(rt, agrees(de, paper))
 }
 
 fn chroma(rt: &impl Print, name: Chroma) -> io::Result<()> {
     match name {
-        Chroma::More => text(rt, "  more chroma, "),
-        Chroma::Less => text(rt, "  less chroma, "),
-        Chroma::Equal => text(rt, "  equal in chroma, "),
+        Chroma::More => text(rt, b"  more chroma, "),
+        Chroma::Less => text(rt, b"  less chroma, "),
+        Chroma::Equal => text(rt, b"  equal in chroma, "),
     }
 }
 
 fn axis(rt: &impl Print, name: Axis) -> io::Result<()> {
     match name {
-        Axis::Redder => text(rt, "redder"),
-        Axis::Yellower => text(rt, "yellower"),
-        Axis::Greener => text(rt, "greener"),
-        Axis::Bluer => text(rt, "bluer"),
+        Axis::Redder => text(rt, b"redder"),
+        Axis::Yellower => text(rt, b"yellower"),
+        Axis::Greener => text(rt, b"greener"),
+        Axis::Bluer => text(rt, b"bluer"),
     }
 }
 
 fn hue(rt: &impl Print, name: Hue) -> io::Result<()> {
     match name {
-        Hue::Equal => text(rt, "equal in hue\n"),
+        Hue::Equal => text(rt, b"equal in hue\n"),
         Hue::Towards(first, next) => {
             axis(rt, first)?;
-            text(rt, "(")?;
+            text(rt, b"(")?;
             axis(rt, next)?;
-            text(rt, ")\n")
+            text(rt, b")\n")
         }
     }
 }
