@@ -1,5 +1,5 @@
--- `roots::cube_takes_over` meets its contract: the two cubes are multiplied out. What a 1 takes below 2 ^ 22 fits 64 bits.
--- Assumes nothing.
+-- `roots::cube_takes_over` meets its contract: the two cubes are multiplied out. What a 1 takes below 2 ^ 22 fits 64
+-- bits. Assumes nothing.
 use mathlib.Core.Path.{◌≡◌}
 use Prim.Native.Nat.{ℕ, ◌+◌, ◌*◌, ◌^◌, ◌≤◌, ◌<◌}
 use native.Mathlib.Nat.{pow-zero, pow-suc, mul-le-mul}
