@@ -60,55 +60,7 @@ no_longer_report s T h = report-length-le _ (printable h)
 abbrev pub Short : Outcome → Type 0
 Short o = (j : Judgement) → o ≡ Judged j → length (report_text j) ≤ 161
 
-said-short :
-    {j : Judgement} → j ≡ judgement_of j.standard j.test → Specimen j.standard j.test →
-    length (report_text j) ≤ 161
-said-short is asked = subst (λ (k : Judgement). length (report_text k) ≤ 161) (sym is) (no_longer_report _ _ asked)
-
-pub judged-short : (xs : List ℕ) (r : Reading) → Short (judged_by (decode xs) r)
-judged-short xs r j e = let said = judged-said xs r e in said-short said.is said.asked
-
-pub ticket-short : (p : Parsed) → Short (ticket_outcome p)
-ticket-short p j e = let said = ticket-said p e in said-short said.is said.asked
-
 -- ---- 161 BYTES FROM THE COLUMN ON ARE ENOUGH FOR EVERY REPORT: with so many, no call is refused for want of room
 
 abbrev pub EnoughRoom : (call : (room : List ℕ) (column : ℕ) → Answer) → Type 0
 EnoughRoom call = (room : List ℕ) (column : ℕ) → column + 161 ≤ length room → (call room column).number ≡ 10 → ⊥
-
--- the room has no fault, and the numbers of all others are below 10
-abbrev Below10 : ℕ → Type 0
-Below10 n = n < 10
-
-room_below_10 :
-    (o : Outcome) → Short o → (room : List ℕ) (column : ℕ) → column + 161 ≤ length room →
-    Below10 (room_fault o room column).number
-unfolding has_room
-room_below_10 (Refused n) short room column some = omega arith
-room_below_10 (Judged j) short room column some =
-    rw (le-leb (column + length (report_text j)) (length room) (omega (arith, short j refl))) (omega arith)
-
-refusal_below_10 :
-    (fs : List Fault) → Each Below10 fs → (o : Outcome) → Short o → (room : List ℕ) (column : ℕ) →
-    column + 161 ≤ length room →
-    refusal (room_fault o room column ∷ fs) < 10
-refusal_below_10 fs each o short room column some =
-    refusal_keeps Below10 (omega arith) (more (room_below_10 o short room column some) each)
-
-pub enough-room : (xs : List ℕ) (r : Reading) → EnoughRoom (judge_call xs r)
-unfolding judge_call
-enough-room xs r room column some ten =
-    let each = judge_each Below10 (omega arith) (omega arith) (omega arith) (omega arith) (omega arith) (decode xs) r in
-    omega (arith, refusal_below_10 _ each (judged_by (decode xs) r) (judged-short xs r) room column some)
-
-pub enough_room_for_a_ticket : (text : List ℕ) → EnoughRoom (ticket_call text)
-unfolding ticket_call
-enough_room_for_a_ticket text room column some ten =
-    let each =
-    ticket_each Below10 (omega arith) (omega arith) (omega arith) (omega arith) (omega arith) (omega arith)
-    (ticket_of text) in
-    omega (
-      arith,
-      refusal_below_10 _ each (ticket_outcome (ticket_of text)) (ticket-short (ticket_of text)) room column
-          some,
-    )

@@ -27,6 +27,7 @@ use Rattle.sheet.specs.declared.scaled.Scaled.{Scaled}
 use Rattle.sheet.specs.declared.scaled.Scaled.TheVariants.{Cielab, Cie94, Cmc}
 use Rattle.sheet.specs.declared.verdict.Verdict.{Verdict}
 use Rattle.sheet.specs.declared.verdict.Verdict.TheVariants.{Near, Pass, Fail}
+pub mod Apart
 
 -- ---- lines 1 to 8
 

@@ -9,13 +9,9 @@ use Rattle.rounding.specs.Signed.{∣◌∣, minus}
 use Rattle.rounding.proofs.Theorems.Signed.Difference.{IsDiff, above, below, over, under}
 use Rattle.rounding.proofs.Theorems.Signed.Difference.{diff_same, diff_parts, diff_add, diff_mul}
 use Rattle.rounding.proofs.Theorems.Signed.Laws.{abs-mul, zero_of_abs}
+use Rattle.sheet.specs.Sheet.Apart.Ray.{Rooted}
 
 -- ---- in magnitudes
-
--- the root of x² + y², rounded down, is r
-pub record Rooted (r x y : ℕ) : Type 0 where
-  pub low : r * r ≤ x * x + y * y
-  pub high : x * x + y * y < (r + 1) * (r + 1)
 
 pub le-square : (x : ℕ) → x ≤ x * x
 le-square zero = omega arith

@@ -11,7 +11,8 @@ use Rattle.rounding.specs.Signed.{∣◌∣, square, minus, signed}
 use Rattle.rounding.proofs.Theorems.Signed.Laws.{abs-signed}
 use Rattle.colour.specs.Conversion.{Lab}
 use Rattle.sheet.specs.Sheet.{chroma, chroma_of, distance², change, cross, dot, same_hue, hue_change, shift}
-use Rattle.sheet.proofs.Theorems.Sheet.Apart.Ray.{Rooted, le-square, eq_of_sub, same_on_ray}
+use Rattle.sheet.specs.Sheet.Apart.Ray.{Rooted}
+use Rattle.sheet.proofs.Theorems.Sheet.Apart.Ray.{le-square, eq_of_sub, same_on_ray}
 use Rattle.sheet.proofs.Theorems.Sheet.Laws.{abs-change}
 
 rooted : (a b : ℤ) → Rooted (chroma a b) ∣ a ∣ ∣ b ∣

@@ -1,0 +1,2 @@
+-- By what `proofs/Theorems/Sheet/Apart.antt` speaks.
+pub mod Ray
