@@ -198,7 +198,7 @@ ticket-report text room column e =
 
 -- WITHOUT THE LINES L AND C, its first two lines right and r starting with tol=, a ticket comes to what it comes to
 -- with l=2.000 and c=1.000 in their places. `without` and `written` are the two texts, in
--- crates/ticket/specs/Ticket/AsWritten.antt
+-- crates/ticket/proofs/Theorems/Ticket/AsWritten.antt
 module _ (f : Formula) (w : White) (r : List ℕ) (tol : starts_with (ascii "tol=") r ≡ true) where
   -- by value
   pub outcome_as_written : ticket_outcome (ticket_of (without f w r)) ≡ ticket_outcome (ticket_of (written f w r))
@@ -274,7 +274,7 @@ module _ (cs : List Call) where
 
 -- what an accepted sort hands back and writes is the sheet's, of the mean and each cone: `Delivery` has the white and
 -- the colours of all cones, `HandedBack` the mean, each cone's DE, the entries past the count and the farthest, in
--- crates/delivery/specs/Sorted/Exact.antt. No station is read or written
+-- crates/delivery/proofs/Theorems/Sorted/Exact.antt. No station is read or written
 pub sorted_as :
     (k : Kind) (white l c : ℕ) (xs ys zs de : List Float) {r : Sorted} {left : List Float} →
     Sorts k white l c xs ys zs de r left → r.number ≡ 0 →

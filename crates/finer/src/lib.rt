@@ -1,2 +1,2 @@
-// Laws only: no sheet carried to more binary places changes a verdict (specs/Finer.antt).
+// Laws only: no sheet carried to more binary places changes a verdict (specs/Finer.antt, proofs/Theorems/Finer.antt).
 #![tactic(auto)]

@@ -98,7 +98,7 @@ unfoldable pub hue_t : (n : ℕ) (second : Bool) (M C : ℕ) → ℕ
 hue_t n false M C = (360000000 * C + 4 * M) * 2 ^ n / (1000000000 * C)
 hue_t n true M C = (560000000 * C + 2 * M) * 2 ^ n / (1000000000 * C)
 
--- line 7: P = F-as-T
+-- line 7: P = F·T
 unfoldable pub hue_p : (n F T : ℕ) → ℕ
 hue_p n F T = F * T / 2 ^ n
 
@@ -106,7 +106,7 @@ hue_p n F T = F * T / 2 ^ n
 unfoldable pub hue_g : (n P F : ℕ) → ℕ
 hue_g n P F = P + 2 ^ n - F
 
--- line 7: SH = SC-as-G
+-- line 7: SH = SC·G
 unfoldable pub semi_axis_h : (n SC G : ℕ) → ℕ
 semi_axis_h n SC G = SC * G / 2 ^ n
 

@@ -228,7 +228,7 @@ module _ (n : ℕ) (a b : ℤ) (C SC : ℕ) where
       pos-eqb : (x : ℕ) → 0 < x → eqb x 0 ≡ false
       pos-eqb x h = ne_eqb x 0 (λ e. omega arith)
 
--- SH is SC-as-G with G from 0.36, rounded down, to 1: for a neutral colour G is 1
+-- SH is SC·G with G from 0.36, rounded down, to 1: for a neutral colour G is 1
 pub record ByG (n : ℕ) (a b : ℤ) (SC : ℕ) : Type 0 where
   pub G : ℕ
   pub low : 36 * 2 ^ n / 100 ≤ G
