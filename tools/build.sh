@@ -198,7 +198,7 @@ build_make() {
     mkdir -p "$top/target/built" "$top/target/bin" "$top/target/staticlib"
     rm -f "$top/target/built/$1" "$(build_file "$1")" "$(build_made "$1")" "$(build_made "$1").stamp"
     : >"$build_log"
-    build_say "proving $1, $build_of crates, and building it: the first time some ten minutes"
+    build_say "proving $1, $build_of crates, and building it: the first time some five minutes"
     if ! build_by_rt "$1" || ! build_is_said "$1" || ! cp "$(build_made "$1")" "$(build_file "$1")"; then
         cat "$build_log" >&2
         build_say "$1 could not be checked and built; all that rt said is above"
