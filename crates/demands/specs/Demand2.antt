@@ -87,7 +87,7 @@ pub record OfTheSheet (by : Settings) (R T : GridColour) (j : Judgement) : Type 
   pub verdict : j.verdict ≡ verdict 20 by.tolerance (sheet 20 by.formula by.l by.c R T).DE
   pub withheld : (j.withheld ≡ true) ↔ ((by.formula ≡ CMC) × (Achromatic R ⊎ Achromatic T))
 
-of_the_sheet : {j : Judgement} → j ≡ judgement_of j.standard j.test →
+pub of_the_sheet : {j : Judgement} → j ≡ judgement_of j.standard j.test →
     OfTheSheet j.standard.settings j.standard.colour j.test j
 unfolding judgement_of comparison
 of_the_sheet {j} is =
@@ -108,7 +108,7 @@ pub record HandedBack (o : Outcome) (j : Judgement) : Type 0 where
   pub figures : SpecimenExact j (specimen_answer o).figures
   pub names : (specimen_answer o).names ≡ Names j.lightness j.chroma j.hue j.verdict
 
-handed_back :
+pub handed_back :
     {o : Outcome} {j : Judgement} → o ≡ Judged j → SpecimenExact j (specimen_answer o).figures → HandedBack o j
 unfolding specimen_answer
 handed_back e exact = record { figures = exact; names = rw e }
@@ -141,16 +141,7 @@ pub record JudgedBy (xs : List ℕ) (r : Reading) (j : Judgement) : Type 0 where
   pub sheet : OfTheSheet j.standard.settings j.standard.colour j.test j
   pub handed : HandedBack (judged_by (decode xs) r) j
 
-pub judged_by_the_sheet :
-    (xs : List ℕ) (r : Reading) {j : Judgement} → judged_by (decode xs) r ≡ Judged j → JudgedBy xs r j
-judged_by_the_sheet xs r e =
-    let said = judged-said xs r e in
-    record {
-      held = said.held;
-      test = said.read;
-      sheet = of_the_sheet said.is;
-      handed = handed_back e (judge-exact xs r e);
-    }
+-- `judged_by_the_sheet` of `proofs/Theorems/Demand2.antt` says it of whatever a judgement comes to
 
 -- the C entries' report is that of what is judged
 pub judge-report :
@@ -173,20 +164,7 @@ pub record JudgedIn (text : List ℕ) (j : Judgement) : Type 0 where
   pub sheet : OfTheSheet j.standard.settings j.standard.colour j.test j
   pub handed : HandedBack (ticket_outcome (ticket_of text)) j
 
-pub ticket_by_the_sheet : (text : List ℕ) {j : Judgement} → ticket_outcome (ticket_of text) ≡ Judged j → JudgedIn text j
-unfolding ticket_answer
-ticket_by_the_sheet text e =
-    let said = ticket-said (ticket_of text) e in
-    let from = accepted_made said.ticket.settings _ said.accepted in
-    record {
-      ticket = said.ticket;
-      consists = (right_exactly text said.ticket).0 said.right;
-      settings = from.settings;
-      reference = from.placed;
-      test = said.read;
-      sheet = of_the_sheet said.is;
-      handed = handed_back e (ticket-exact (ticket_of text) e);
-    }
+-- `ticket_by_the_sheet` of `proofs/Theorems/Demand2.antt` says it of whatever a ticket comes to
 
 pub ticket-report :
     (text room : List ℕ) (column : ℕ) → (ticket_call text room column).number ≡ 0 →

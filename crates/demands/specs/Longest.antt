@@ -1,6 +1,7 @@
 -- NO REPORT IS LONGER THAN 161 BYTES, and so 161 bytes from the column on are enough room for every call that writes
 -- one: whatever the station's slice or the ticket holds, and whatever is read. `Longest/Reached.antt` has a report of
--- just as many, `Longest/Printed.antt` what the program prints. Assumes nothing.
+-- just as many; `proofs/Theorems/Longest.antt` says it of every call, `proofs/Theorems/Longest/Printed.antt` of what the
+-- program prints. Assumes nothing.
 use Rattle.std.specs.Prelude.{◌≡◌, refl, List, ◌∷◌, ℕ, ◌+◌, ◌≤◌, ◌<◌, length}
 use Rattle.std.proofs.Common.{sym, subst, arith, le-leb}
 use Rattle.colour.specs.Conversion.{at_places}
@@ -33,7 +34,6 @@ use Rattle.demands.specs.Longest.Names.{bracket-differs}
 pub mod Figures
 pub mod Names
 pub mod Reached
-pub mod Printed
 
 -- ---- the report of a judgement
 

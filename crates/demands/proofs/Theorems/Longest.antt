@@ -30,6 +30,7 @@ use Rattle.demands.specs.Longest.Figures.{sheet-figures}
 use Rattle.demands.specs.Longest.Names.{not_minus_component, not_minus_of_lighter, not_minus_of_equal}
 use Rattle.demands.specs.Longest.Names.{bracket-differs}
 use Rattle.demands.specs.Longest.{no_longer_report, Short, EnoughRoom}
+pub mod Printed
 
 said-short :
     {j : Judgement} → j ≡ judgement_of j.standard j.test → Specimen j.standard j.test →

@@ -11,7 +11,8 @@ use Rattle.standard.specs.declared.judge.Outcome.TheVariants.{Refused, Judged}
 use Rattle.calls.specs.Outcome.{ticket_outcome}
 use Rattle.printing.specs.Printed.{line_of, outcome_text, printed_text, Prints}
 use Rattle.printing.specs.Printed.Laws.{refusal-length}
-use Rattle.demands.specs.Longest.{Short, ticket-short}
+use Rattle.demands.specs.Longest.{Short}
+use Rattle.demands.proofs.Theorems.Longest.{ticket-short}
 
 whole_length_le : (n : ℕ) → length (whole_text n) ≤ 21
 whole_length_le n = rw last_digits_length (width_few n)

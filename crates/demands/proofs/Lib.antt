@@ -1,0 +1,2 @@
+-- theorems by the statements of specs/
+pub mod Theorems
