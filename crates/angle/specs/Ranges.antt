@@ -14,11 +14,6 @@ pub record Ahead (x y : ℕ) : Type 0 where
   pub along : x ≤ 256 * 2 ^ 20
   pub beyond : y ≤ 256 * 2 ^ 20
 
--- and a degree of the table
-pub record AtDegree (k x y : ℕ) : Type 0 where
-  pub degree : k ≤ 90
-  pub colour : Ahead x y
-
 pub record OnPlane (a b : ℤ) : Type 0 where
   pub a_range : ∣ a ∣ ≤ 256 * 2 ^ 20
   pub b_range : ∣ b ∣ ≤ 256 * 2 ^ 20

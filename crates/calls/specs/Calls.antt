@@ -1,17 +1,16 @@
 -- docs/SCOPE.md 1.3, 8: what each call on lent slices answers, and what it leaves in the slice that it may write.
 -- Assumes nothing.
-use Rattle.std.specs.Prelude.{◌≡◌, Bool, false, not, cond, List, ◌∷◌, ℕ, eqb, length}
+use Rattle.std.specs.Prelude.{◌≡◌, Bool, false, not, cond, List, ◌∷◌, ℕ, eqb, length, Ok, Err}
 use Rattle.std.proofs.Common.{sym, ◌∙◌}
-use Rattle.colour.specs.declared.placed.Reading.{Reading}
+use Rattle.colour.specs.Refusal.{refusal_of}
+use Rattle.colour.specs.Placed.{Reading}
 use Rattle.text.specs.Put.{put_at}
 use Rattle.ticket.specs.Ticket.{ticket_of}
 use Rattle.report.specs.Report.{report_text}
 use Rattle.report.specs.Write.{has_room}
 use Rattle.standard.specs.Refusals.{Fault, fault, first, refusal, at_room}
 use Rattle.standard.specs.Acceptance.{settings_of}
-use Rattle.standard.specs.Judgement.{number_of}
-use Rattle.standard.specs.declared.judge.Outcome.{Outcome}
-use Rattle.standard.specs.declared.judge.Outcome.TheVariants.{Refused, Judged}
+use Rattle.standard.specs.Judgement.{Outcome}
 use Rattle.station.specs.Record.{decode}
 use Rattle.station.specs.Runs.{left}
 use Rattle.calls.specs.Outcome.{loaded, load_faults, judged_by, judge_faults, ticket_outcome, ticket_faults}
@@ -55,13 +54,13 @@ abbrev pub room_fault : Outcome → (room : List ℕ) (column : ℕ) → Fault
 room_fault o room column = fault at_room 10 (short o)
   where
     short : Outcome → Bool
-    short (Refused n) = false
-    short (Judged j) = not (has_room room column j)
+    short (Err n) = false
+    short (Ok j) = not (has_room room column j)
 
 -- the room with the report in it from the column on, every other byte as it was
 abbrev pub with_report : Outcome → (room : List ℕ) (column : ℕ) → List ℕ
-with_report (Refused n) room column = room
-with_report (Judged j) room column = put_at room column (report_text j)
+with_report (Err n) room column = room
+with_report (Ok j) room column = put_at room column (report_text j)
 
 unfoldable pub judge_call : List ℕ → Reading → (room : List ℕ) (column : ℕ) → Answer
 judge_call xs r room column =
@@ -75,4 +74,4 @@ ticket_call text room column =
 
 -- both by what they come to
 unfoldable pub reported : Outcome → (room : List ℕ) (column : ℕ) → Answer
-reported o room column = writing (first (number_of o) (room_fault o room column).number) (with_report o room column) room
+reported o room column = writing (first (refusal_of o) (room_fault o room column).number) (with_report o room column) room

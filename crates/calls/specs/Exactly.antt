@@ -3,12 +3,11 @@
 -- settings and of the station's slice are in `station`'s Record/Exactly.antt, those of a reading in `colour`'s
 -- Placed/Exactly.antt, those of a ticket's text in `ticket`'s Ticket/Grammar.antt, the first refused cone in `cones`'
 -- Cones/Exactly.antt; `NoneOf` says that none of a list holds. Proofs are in Exactly/. Assumes nothing.
-use Rattle.std.specs.Prelude.{◌≡◌, List, [], ◌∷◌, ◌++◌, ◌↔◌, ◌⊎◌, ℕ, ◌+◌, ◌<◌, Float, length}
+use Rattle.std.specs.Prelude.{◌≡◌, List, [], ◌∷◌, ◌++◌, ◌↔◌, ◌⊎◌, ℕ, ◌+◌, ◌<◌, Float, length, Ok, Some}
 use Rattle.colour.specs.Placed.Exactly.{NotFinite, OutOfRange, Beyond, WrittenOutOfRange, WrittenBeyond}
 use Rattle.colour.specs.White.{white_numbered}
-use Rattle.colour.specs.declared.placed.Reading.{Reading}
+use Rattle.colour.specs.Placed.{Reading}
 use Rattle.colour.specs.declared.white.White.{White}
-use Rattle.colour.specs.declared.white.Numbered.TheVariants.{Is}
 use Rattle.cones.proofs.Theorems.Cones.Exactly.{FirstBy, OutAlone, BeyondAlone}
 use Rattle.ticket.specs.Ticket.{ticket_of}
 use Rattle.ticket.specs.Ticket.Grammar.{WrongAt, Consists}
@@ -16,11 +15,9 @@ use Rattle.ticket.specs.declared.lines.Ticket.{Ticket}
 use Rattle.report.specs.Report.{report_text}
 use Rattle.standard.specs.declared.accept.Standard.{Standard}
 use Rattle.standard.specs.declared.judge.Judgement.{Judgement}
-use Rattle.standard.specs.declared.judge.Outcome.{Outcome}
-use Rattle.standard.specs.declared.judge.Outcome.TheVariants.{Judged}
+use Rattle.standard.specs.Judgement.{Outcome}
 use Rattle.station.specs.Record.{decode}
 use Rattle.station.specs.Record.Exactly.{Outside, NoFormula, NoWhite, FactorsOut, ToleranceOut, NoStandard}
-use Rattle.station.specs.declared.Station.TheVariants.{Holds}
 use Rattle.calls.specs.Outcome.{judged_by, ticket_outcome}
 use Rattle.calls.specs.Calls.Numbers.{OneOf}
 use Rattle.calls.specs.Exactly.First.{NoneOf}
@@ -30,7 +27,7 @@ pub mod First
 
 -- 8: beyond 256 in the white that is numbered
 abbrev pub BeyondIn : (white : ℕ) → Reading → Type 0
-BeyondIn white r = (w : White) × (white_numbered white ≡ Is w) × Beyond w r
+BeyondIn white r = (w : White) × (white_numbered white ≡ Some w) × Beyond w r
 
 -- 1 to 4
 abbrev pub wrong_settings : (formula white l c tolerance : ℕ) → List (Type 0)
@@ -70,7 +67,7 @@ pub record LoadByCall (number : ℕ) (xs : List ℕ) (formula white l c toleranc
 
 -- 8: beyond 256 in the white of the standard
 abbrev pub BeyondHeld : List ℕ → Reading → Type 0
-BeyondHeld xs r = (s : Standard) × (decode xs ≡ Holds s) × Beyond s.settings.white r
+BeyondHeld xs r = (s : Standard) × (decode xs ≡ Some s) × Beyond s.settings.white r
 
 -- 9, 5, 6, 8
 abbrev pub wrong_judgement : List ℕ → Reading → List (Type 0)
@@ -78,7 +75,7 @@ wrong_judgement xs r = NoStandard xs ∷ NotFinite r ∷ OutOfRange r ∷ Beyond
 
 -- 10: something is judged, and the room from the column on is shorter than its report
 abbrev pub RoomShort : Outcome → (room : List ℕ) (column : ℕ) → Type 0
-RoomShort o room column = (j : Judgement) × (o ≡ Judged j) × (length room < column + length (report_text j))
+RoomShort o room column = (j : Judgement) × (o ≡ Ok j) × (length room < column + length (report_text j))
 
 pub record JudgeRows (number : ℕ) (xs : List ℕ) (r : Reading) : Type 0 where
   pub is_9 : number ≡ 9 ↔ NoStandard xs
@@ -172,7 +169,7 @@ pub data WrongCount (xs ys zs : List Float) (room : ℕ) : Type 0 where
 
 -- cone i has A, and all before it are accepted, in the white that is numbered
 abbrev pub FirstIn : (white : ℕ) (A : White → Reading → Type 0) → List Reading → (i : ℕ) → Type 0
-FirstIn white A rs i = (w : White) × (white_numbered white ≡ Is w) × FirstBy w (A w) rs i
+FirstIn white A rs i = (w : White) × (white_numbered white ≡ Some w) × FirstBy w (A w) rs i
 
 abbrev pub SomeFirst : (white : ℕ) (A : White → Reading → Type 0) → List Reading → Type 0
 SomeFirst white A rs = (i : ℕ) × FirstIn white A rs i

@@ -1,9 +1,9 @@
 -- docs/SCOPE.md 1.4, 2.2: runs of calls. The station's slice starts as zeros, and each call gets it as the call before
 -- left it. Assumes nothing.
 use Rattle.std.specs.Prelude.{◌≡◌, List, [], ◌∷◌, ℕ}
-use Rattle.colour.specs.declared.placed.Reading.{Reading}
+use Rattle.colour.specs.Placed.{Reading}
 use Rattle.standard.specs.Acceptance.{settings_of}
-use Rattle.standard.specs.declared.accept.Acceptance.{Acceptance}
+use Rattle.standard.specs.Acceptance.{Acceptance}
 use Rattle.station.specs.Record.{zeros}
 use Rattle.station.specs.Runs.{last_accepted, fresh}
 use Rattle.calls.specs.Outcome.{loaded}

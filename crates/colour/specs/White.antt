@@ -1,10 +1,8 @@
 -- docs/SCOPE.md 4, whites: BS 6923, Table 1. Assumes nothing.
-use Rattle.std.specs.Prelude.{◌≡◌, refl, cond, ℕ, ◌*◌, eqb}
+use Rattle.std.specs.Prelude.{◌≡◌, refl, cond, ℕ, ◌*◌, eqb, Option, Some, None}
 use Rattle.colour.specs.declared.white.TristimulusValues.{TristimulusValues}
 use Rattle.colour.specs.declared.white.White.{White}
 use Rattle.colour.specs.declared.white.White.TheVariants.{D65Ten, D65Two, CTen, CTwo}
-use Rattle.colour.specs.declared.white.Numbered.{Numbered}
-use Rattle.colour.specs.declared.white.Numbered.TheVariants.{Is, Unknown}
 
 -- from the table's thousandths
 abbrev thousandths : (Xn Yn Zn : ℕ) → TristimulusValues
@@ -25,12 +23,12 @@ number_of_white CTen = 3
 number_of_white CTwo = 4
 
 -- the white of a number, if there is one
-unfoldable pub white_numbered : ℕ → Numbered
+unfoldable pub white_numbered : ℕ → Option White
 white_numbered n =
-    cond (eqb n 1) (Is D65Ten)
-    (cond (eqb n 2) (Is D65Two) (cond (eqb n 3) (Is CTen) (cond (eqb n 4) (Is CTwo) Unknown)))
+    cond (eqb n 1) (Some D65Ten)
+    (cond (eqb n 2) (Some D65Two) (cond (eqb n 3) (Some CTen) (cond (eqb n 4) (Some CTwo) None)))
 
-pub numbered_back : (w : White) → white_numbered (number_of_white w) ≡ Is w
+pub numbered_back : (w : White) → white_numbered (number_of_white w) ≡ Some w
 unfolding white_numbered
 numbered_back D65Ten = refl
 numbered_back D65Two = refl

@@ -1,7 +1,9 @@
 // The whites of BS 6923, Table 1.
-ghost use Rattle.std.specs.Prelude.{◌≡◌};
+ghost use Rattle.std.specs.Prelude.{◌≡◌, ok_or};
 ghost use Rattle.colour.specs.White.{white_of, number_of_white, white_numbered};
-ghost use Rattle.colour.specs.declared.white.White.{White};
+ghost use Rattle.colour.specs.declared.refusal.Refusal.TheVariants.{White as Refused};
+
+use crate::refusal::Refusal;
 
 // Tristimulus values, of a specimen or of a white, in millionths.
 #[derive(Clone, Copy)]
@@ -12,19 +14,12 @@ pub struct TristimulusValues {
 }
 
 // An illuminant with its observer, of 10 or of 2 degrees.
-#[derive(Clone, Copy)]
+#[derive(Clone, Copy, Debug, PartialEq, Eq)]
 pub enum White {
     D65Ten,
     D65Two,
     CTen,
     CTwo,
-}
-
-// What a white's number names.
-#[derive(Clone, Copy)]
-pub enum Numbered {
-    Is(White),
-    Unknown,
 }
 
 impl White {
@@ -56,30 +51,36 @@ impl White {
             },
         }
     }
+}
 
-    // By which a load names the white.
-    pub fn number(self) -> u32
-        ensures { result ≡ number_of_white self }
-    {
-        match self {
+// By which a load names the white.
+impl From<White> for u32 {
+    ghost from_gives = { λ w n. n ≡ number_of_white w };
+
+    fn from(w: White) -> u32 {
+        match w {
             White::D65Ten => 1,
             White::D65Two => 2,
             White::CTen => 3,
             White::CTwo => 4,
         }
     }
+}
 
-    // The white of a number.
+// The white of a number.
+impl TryFrom<u32> for White {
+    type Error = Refusal;
+
+    ghost try_from_gives = { λ n r. r ≡ ok_or (white_numbered n) Refused };
+
     #[tactic(auto, unfolding(crate::specs::White::white_numbered))]
-    pub fn numbered(n: u32) -> Numbered
-        ensures { result ≡ white_numbered n }
-    {
+    fn try_from(n: u32) -> Result<White, Refusal> {
         match n {
-            1 => Numbered::Is(White::D65Ten),
-            2 => Numbered::Is(White::D65Two),
-            3 => Numbered::Is(White::CTen),
-            4 => Numbered::Is(White::CTwo),
-            _ => Numbered::Unknown,
+            1 => Ok(White::D65Ten),
+            2 => Ok(White::D65Two),
+            3 => Ok(White::CTen),
+            4 => Ok(White::CTwo),
+            _ => Err(Refusal::White),
         }
     }
 }

@@ -2,38 +2,25 @@
 use Rattle.std.specs.Prelude.{List, [], pos, Float}
 use Rattle.std.specs.Float.{nan}
 use Rattle.reading.specs.Grid.{grid_of}
-use Rattle.colour.specs.Placed.{place}
+use Rattle.colour.specs.Placed.{Reading, in_space, place}
 use Rattle.colour.specs.declared.conversion.GridColour.{GridColour}
-use Rattle.colour.specs.declared.placed.Placed.{Placed}
-use Rattle.colour.specs.declared.placed.Placed.TheVariants.{At, Refused}
-use Rattle.colour.specs.declared.placed.Reading.{Reading}
-use Rattle.colour.specs.declared.placed.Reading.TheVariants as R
+use Rattle.colour.specs.declared.placed.Values.TheVariants.{Lab}
 use Rattle.colour.specs.declared.white.White.{White}
-use Rattle.cones.specs.declared.Kind.{Kind}
-use Rattle.cones.specs.declared.Kind.TheVariants.{Xyz, Lab}
+use Rattle.colour.specs.declared.placed.Space.{Space}
 use Rattle.cones.specs.Zip.{zip}
-use Rattle.cones.specs.InTurn.{Turn, taken, denied, Turns, whole, refused, in_turn}
-
-abbrev pub reading_of : Kind → (x y z : Float) → Reading
-reading_of Xyz x y z = R.Xyz x y z
-reading_of Lab x y z = R.Lab x y z
+use Rattle.cones.specs.InTurn.{Turn, Turns, whole, refused, in_turn}
 
 -- cone i is the reading of entry i of each of the three
-abbrev pub readings_of : Kind → (xs ys zs : List Float) → List Reading
-readings_of k xs ys zs = zip (reading_of k) xs ys zs
+abbrev pub readings_of : Space → (xs ys zs : List Float) → List Reading
+readings_of k xs ys zs = zip (in_space k) xs ys zs
 
 -- what a read past the end would be
 abbrev pub no_reading : Reading
-no_reading = R.Lab nan nan nan
+no_reading = Lab nan nan nan
 
--- a cone is taken with its colour, or refused with 5, 6 or 8
-abbrev pub placed_turn : Placed → Turn GridColour
-placed_turn (At c) = taken c
-placed_turn (Refused n) = denied n
-
--- against a white
+-- a cone is taken with its colour against a white, or refused with 5, 6 or 8
 abbrev pub turn_in : White → Reading → Turn GridColour
-turn_in w r = placed_turn (place w r)
+turn_in w r = place w r
 
 -- THE COLOURS OF ALL CONES, OR THE FIRST REFUSED
 abbrev pub cones_in : White → List Reading → Turns GridColour
@@ -42,7 +29,7 @@ cones_in w rs = in_turn (turn_in w) rs
 -- the colours of a delivery of which no cone is refused
 abbrev pub colours_of : Turns GridColour → List GridColour
 colours_of (whole cs) = cs
-colours_of (refused n i) = []
+colours_of (refused e i) = []
 
 abbrev pub colours_in : White → List Reading → List GridColour
 colours_in w rs = colours_of (cones_in w rs)

@@ -2,7 +2,7 @@
 use Rattle.std.specs.Prelude.{◌≡◌, Bool, true, ◌&&◌, eqb, length, get_or}
 use Rattle.std.proofs.Math.Path.{refl, ap}
 use mathlib.Core.List.{List, [], ◌∷◌}
-use Prim.Native.Nat.{ℕ, zero, suc, ◌≤◌, ◌<◌}
+use Prim.Native.Nat.{ℕ, zero, suc, ◌<◌}
 use Rattle.std.proofs.Common.{le_of_suc-le-suc, not-suc-le-zero, arith, eqb-true, eq-eqb}
 use Rattle.colour.proofs.Theorems.Conversion.Laws.{both_true}
 
@@ -24,11 +24,6 @@ even_of_test xs ys zs h =
 pub test_of_even : {A : Type 0} (xs ys zs : List A) → Even xs ys zs → is_even xs ys zs ≡ true
 unfolding is_even
 test_of_even xs ys zs h = rw (eq-eqb _ _ h.ys-length, eq-eqb _ _ h.zs-length)
-
--- and at most m
-pub record Counted {A : Type 0} (m : ℕ) (xs ys zs : List A) : Type 0 where
-  pub even : Even xs ys zs
-  pub few : length xs ≤ m
 
 module _ {A B : Type 0} (f : A → A → A → B) where
   -- f of the first of each, then f of the second of each, and so on to the end of the shortest

@@ -5,22 +5,19 @@ use Rattle.reading.specs.Grid.{value_of}
 use Rattle.colour.specs.Conversion.Ranges.{OnGrid}
 use Rattle.colour.specs.declared.conversion.GridColour.{GridColour}
 use Rattle.sheet.specs.Settings.{Factor}
-use Rattle.cones.specs.Zip.{Even}
 use Rattle.delivery.specs.declared.farthest.Far.{Far}
 use Rattle.delivery.specs.Farthest.{farthest}
 use Rattle.delivery.specs.Written.{written}
 
--- a delivery of which no cone is refused, its colours cs and a mean, and a slice with an entry for each
-pub record Room (l c : ℕ) (M : GridColour) (xs ys zs : List Float) (cs : List GridColour) (de : List Float) : Type 0
-  where
-    pub even : Even xs ys zs
-    pub count : length cs ≡ length xs
-    pub few : length xs ≤ 256
-    pub enough : length xs ≤ length de
-    pub lightness : Factor l
-    pub chroma : Factor c
-    pub mean : OnGrid M
-    pub colours : Every OnGrid cs
+-- a delivery of n cones of which none is refused, their colours cs and a mean, and a slice with an entry for each
+pub record Room (l c : ℕ) (M : GridColour) (n : ℕ) (cs : List GridColour) (de : List Float) : Type 0 where
+  pub count : length cs ≡ n
+  pub few : n ≤ 256
+  pub enough : n ≤ length de
+  pub lightness : Factor l
+  pub chroma : Factor c
+  pub mean : OnGrid M
+  pub colours : Every OnGrid cs
 
 -- the farthest of these DE, and each as a float from the start of the slice
 pub record Figures (ds : List ℕ) (de : List Float) (f : Far) (left : List Float) : Type 0 where

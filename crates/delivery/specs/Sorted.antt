@@ -1,17 +1,18 @@
 -- docs/SCOPE.md 13: what a sort answers, and what it leaves in the lent slice. Assumes nothing.
-use Rattle.std.specs.Prelude.{◌≡◌, Bool, not, cond, ◌&&◌, List, [], ◌∷◌, map, ℕ, ◌≤◌, leb, eqb, Float, pos, length}
+use Rattle.std.specs.Prelude.{◌≡◌, Bool, not, ◌&&◌, List, [], ◌∷◌, map, ℕ, ◌≤◌, leb, Float, pos, length}
+use Rattle.std.specs.Prelude.{Option, Some, None}
 use Rattle.reading.specs.Grid.{value_of}
+use Rattle.colour.specs.Refusal.{number_of_refusal, refusal_numbered}
 use Rattle.colour.specs.White.{white_numbered}
 use Rattle.colour.specs.declared.conversion.GridColour.{GridColour}
-use Rattle.colour.specs.declared.placed.Reading.{Reading}
-use Rattle.colour.specs.declared.white.Numbered.{Numbered}
-use Rattle.colour.specs.declared.white.Numbered.TheVariants as W
+use Rattle.colour.specs.Placed.{Reading}
+use Rattle.colour.specs.declared.refusal.Refusal.{Refusal}
 use Rattle.colour.specs.declared.white.White.{White}
 use Rattle.sheet.specs.Settings.{within, is_factor, Factor}
 use Rattle.cones.specs.Zip.{Even, is_even}
 use Rattle.cones.specs.InTurn.{Turns, whole, refused, number_of}
 use Rattle.cones.specs.Cones.{readings_of, cones_in}
-use Rattle.cones.specs.declared.Kind.{Kind}
+use Rattle.colour.specs.declared.placed.Space.{Space}
 use Rattle.standard.specs.Acceptance.{no_white}
 use Rattle.standard.specs.Figures.{zero}
 use Rattle.standard.specs.Refusals.{Fault, fault, refusal, at_count, at_white, at_l, at_c, at_test}
@@ -41,20 +42,24 @@ call_faults shaped white l c =
     ∷ fault at_c 3 (not (is_factor c)) ∷ []
 
 -- where there is no such white, there is none to read in
-abbrev pub cones_numbered : Numbered → List Reading → Turns GridColour
-cones_numbered (W.Is w) rs = cones_in w rs
-cones_numbered W.Unknown rs = whole []
+abbrev pub cones_numbered : Option White → List Reading → Turns GridColour
+cones_numbered (Some w) rs = cones_in w rs
+cones_numbered None rs = whole []
 
 -- all faults: the first refused cone's stands at the test specimen's place
 unfoldable pub sort_faults : (shaped : Bool) (white l c : ℕ) → List Reading → List Fault
 sort_faults shaped white l c rs =
     record { place = at_test; number = number_of (cones_numbered (white_numbered white) rs) } ∷ call_faults shaped white l c
 
--- the colours of all cones, or the first refusal's number with the refused cone
+-- where the call is refused no cone's turn comes
+abbrev pub refused_before : Option Refusal → Turns GridColour → Turns GridColour
+refused_before (Some e) t = refused e 0
+refused_before None t = t
+
+-- the colours of all cones, or the first refusal with the refused cone
 unfoldable pub delivered : (shaped : Bool) (white l c : ℕ) → List Reading → Turns GridColour
 delivered shaped white l c rs =
-    let n : ℕ = refusal (call_faults shaped white l c) in
-    cond (eqb n 0) (cones_numbered (white_numbered white) rs) (refused n 0)
+    refused_before (refusal_numbered (refusal (call_faults shaped white l c))) (cones_numbered (white_numbered white) rs)
 
 -- ---- what is handed back
 
@@ -78,7 +83,7 @@ module _ (l c : ℕ) where
 
   abbrev pub answer_of : Turns GridColour → Sorted
   answer_of (whole cs) = sorted_of cs
-  answer_of (refused n i) = refused_with n i
+  answer_of (refused e i) = refused_with (number_of_refusal e) i
 
   -- DE of each cone as a float
   abbrev pub figures : List GridColour → List Float
@@ -87,7 +92,7 @@ module _ (l c : ℕ) where
   -- each cone's from the start of the lent list, the rest kept; a refusal leaves all of it
   abbrev pub left_in : List Float → Turns GridColour → List Float
   left_in de (whole cs) = written (figures cs) de
-  left_in de (refused n i) = de
+  left_in de (refused e i) = de
 
 -- the answer r and the list ys afterwards are those of what the delivery came to
 pub record Gives (l c : ℕ) (t : Turns GridColour) (de : List Float) (r : Sorted) (ys : List Float) : Type 0 where
@@ -96,7 +101,7 @@ pub record Gives (l c : ℕ) (t : Turns GridColour) (de : List Float) (r : Sorte
 
 -- ---- the calls
 
-module _ (k : Kind) (white l c : ℕ) (xs ys zs : List Float) where
+module _ (k : Space) (white l c : ℕ) (xs ys zs : List Float) where
   -- THE CALL
   abbrev pub sort_call : (room : ℕ) → Turns GridColour
   sort_call room = delivered (is_shaped xs ys zs room) white l c (readings_of k xs ys zs)
@@ -110,6 +115,13 @@ pub record CallIn (l c : ℕ) (xs ys zs de : List Float) : Type 0 where
   pub lightness : Factor l
   pub chroma : Factor c
 
-abbrev pub SortsIn :
-    Kind → White → (l c : ℕ) (xs ys zs de : List Float) (r : Sorted) (left : List Float) → Type 0
-SortsIn k w l c xs ys zs de r left = Gives l c (cones_in w (readings_of k xs ys zs)) de r left
+-- the same of their readings
+pub record ReadIn (l c : ℕ) (rs : List Reading) (de : List Float) : Type 0 where
+  pub some : 2 ≤ length rs
+  pub few : length rs ≤ 256
+  pub enough : length rs ≤ length de
+  pub lightness : Factor l
+  pub chroma : Factor c
+
+abbrev pub SortsIn : White → (l c : ℕ) → List Reading → (de : List Float) (r : Sorted) (left : List Float) → Type 0
+SortsIn w l c rs de r left = Gives l c (cones_in w rs) de r left

@@ -1,5 +1,5 @@
 -- Sums of L*, a* and b* over a delivery, as the code works them out. Assumes nothing.
-use Rattle.std.specs.Prelude.{List, ℕ, ◌^◌, ◌≤◌, ◌<◌, ◌+ℤ◌}
+use Rattle.std.specs.Prelude.{List, ℕ, ◌^◌, ◌≤◌, ◌<◌, ◌+ℤ◌, Result, Ok, Err}
 use Rattle.rounding.specs.Mean.{sum, mean_of}
 use Rattle.rounding.specs.Signed.{∣◌∣}
 use Rattle.reading.specs.Grid.{grid_of}
@@ -7,8 +7,7 @@ use Rattle.colour.specs.Conversion.Ranges.{OnGrid}
 use Rattle.colour.specs.declared.conversion.GridColour.{GridColour}
 use Rattle.cones.specs.InTurn.{Turns, whole, refused}
 use Rattle.delivery.specs.declared.mean.Sums.{Sums}
-use Rattle.delivery.specs.declared.mean.Summed.{Summed}
-use Rattle.delivery.specs.declared.mean.Summed.TheVariants.{Of, Refused}
+use Rattle.delivery.specs.declared.mean.RefusedCone.{RefusedCone}
 use Rattle.delivery.specs.Delivery.{units_of}
 
 -- each at most m in magnitude
@@ -29,9 +28,9 @@ unfoldable pub sums_of : List GridColour → Sums
 sums_of cs =
     record { L = sum (units_of (λ c. c.L) cs); a = sum (units_of (λ c. c.a) cs); b = sum (units_of (λ c. c.b) cs) }
 
-abbrev pub summed : Turns GridColour → Summed
-summed (whole cs) = Of (sums_of cs)
-summed (refused n i) = Refused n i
+abbrev pub summed : Turns GridColour → Result Sums RefusedCone
+summed (whole cs) = Ok (sums_of cs)
+summed (refused e i) = Err (record { refusal = e; cone = i })
 
 -- such sums, and how many cones they are of
 pub record Shares (s : Sums) (n : ℕ) : Type 0 where

@@ -1,8 +1,8 @@
 // SCOPE 13.3: each cone's DE from the mean, and the farthest cone.
-ghost use Rattle.std.specs.Prelude.{◌≡◌, ◌^◌, ◌<◌, pos};
+ghost use Rattle.std.specs.Prelude.{◌≡◌, ◌^◌, ◌<◌, pos, length};
 ghost use Rattle.reading.specs.Grid.{value_of};
 ghost use Rattle.sheet.specs.Ranges.{InRange};
-ghost use Rattle.cones.specs.Cones.{readings_of, colours_in};
+ghost use Rattle.cones.specs.Cones.{colours_in};
 ghost use Rattle.delivery.specs.Farthest.{farther_of};
 ghost use Rattle.delivery.specs.Delivery.{difference_from, differences_from};
 ghost use Rattle.delivery.specs.Room.{Room, Figures};
@@ -10,7 +10,7 @@ ghost use Rattle.delivery.specs.Room.{Room, Figures};
 use colour::conversion::GridColour;
 use colour::white::White;
 use comparison::comparison_of;
-use cones::{Kind, colour_at};
+use cones::Cones;
 use reading::grid::Grid;
 use sheet::formula::Formula;
 
@@ -22,6 +22,7 @@ pub struct Far {
 }
 
 // The farther of the two; of two that are as far, the one before.
+#[tactic(auto, unfolding(crate::specs::Farthest::farther_of))]
 fn farther(f: Far, d: u64, i: u32) -> Far
     ensures { result ≡ farther_of f d i }
 {
@@ -33,13 +34,12 @@ fn farther(f: Far, d: u64, i: u32) -> Far
 }
 
 // The DE of a cone, with the mean as reference.
+#[tactic(auto, unfolding(crate::specs::Delivery::difference_from, sheet::specs::Sheet::comparison))]
 fn difference_from(l: u64, c: u64, mean: GridColour, cone: GridColour) -> u64
     requires { InRange l c mean cone }
     ensures { result ≡ difference_from l c mean cone }
 {
-    let found = comparison_of(Formula::CMC, l, c, mean, cone);
-    let differences = found.differences;
-    differences.DE
+    comparison_of(Formula::CMC, l, c, mean, cone).differences.DE
 }
 
 // It as a float. By way of a signed number: of an unsigned zero a processor that rounds downwards makes -0.0.
@@ -52,31 +52,22 @@ fn figure_of(d: u64) -> f64
 
 // One entry a cone from the start of `de`, the rest kept; and the farthest.
 pub(crate) fn write_differences(
-    kind: Kind,
     white: White,
     l: u64,
     c: u64,
     mean: GridColour,
-    xs: &[f64],
-    ys: &[f64],
-    zs: &[f64],
+    cones: &Cones<'_>,
     de: &mut [f64],
 ) -> Far
-    requires { Room l c mean xs.now ys.now zs.now
-        (colours_in white (readings_of kind xs.now ys.now zs.now)) de.old }
-    ensures { Figures
-        (differences_from l c mean
-        (colours_in white (readings_of kind xs.now ys.now zs.now)))
-        de.old result de.new }
+    requires { Room l c mean (length cones.now) (colours_in white cones.now) de.old }
+    ensures { Figures (differences_from l c mean (colours_in white cones.now)) de.old result
+        de.new }
 {
     let mut far = Far { most: 0, at: 0 };
-    let mut i = 0;
-    while i < xs.len() {
-        let cone = colour_at(kind, white, xs, ys, zs, i);
-        let d = difference_from(l, c, mean, cone);
-        de[i] = figure_of(d);
+    for (i, entry) in de[..cones.len()].iter_mut().enumerate() {
+        let d = difference_from(l, c, mean, cones.colour(white, i));
+        *entry = figure_of(d);
         far = farther(far, d, i as u32);
-        i += 1;
     }
     far
 }

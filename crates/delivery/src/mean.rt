@@ -1,13 +1,13 @@
 // SCOPE 13.2: the mean colour of a delivery, or its first refusal.
-ghost use Rattle.std.specs.Prelude.{◌≡◌};
-ghost use Rattle.cones.specs.Zip.{Counted};
-ghost use Rattle.cones.specs.Cones.{readings_of, cones_in};
+ghost use Rattle.std.specs.Prelude.{◌≡◌, ◌≤◌, length};
+ghost use Rattle.cones.specs.Cones.{cones_in};
 ghost use Rattle.delivery.specs.Sums.{Adds, with_colour, summed, Shares, mean_of_sums};
 
 use colour::conversion::GridColour;
-use colour::placed::{Placed, place_reading};
+use colour::placed::place;
+use colour::refusal::Refusal;
 use colour::white::White;
-use cones::{Kind, reading_at};
+use cones::Cones;
 use reading::grid::Grid;
 use rounding::nearest::mean_of;
 
@@ -19,11 +19,11 @@ pub struct Sums {
     pub b: i64,
 }
 
-// The sums of all cones, or a refusal's number and the refused cone.
-#[derive(Clone, Copy)]
-pub enum Summed {
-    Of(Sums),
-    Refused(u32, u32),
+// A refusal, and the cone that it is of.
+#[derive(Clone, Copy, Debug, PartialEq, Eq)]
+pub struct RefusedCone {
+    pub refusal: Refusal,
+    pub cone: u32,
 }
 
 // The sums with one cone more.
@@ -39,26 +39,19 @@ fn with_colour(s: Sums, c: GridColour) -> Sums
 }
 
 // Each cone in turn is added, or refuses the delivery.
-pub(crate) fn sum_of(kind: Kind, white: White, xs: &[f64], ys: &[f64], zs: &[f64]) -> Summed
-    requires { Counted 256 xs.now ys.now zs.now }
-    ensures { result
-        ≡ summed (cones_in white (readings_of kind xs.now ys.now zs.now)) }
+pub(crate) fn sum_of(white: White, cones: &Cones<'_>) -> Result<Sums, RefusedCone>
+    requires { length cones.now ≤ 256 }
+    ensures { result ≡ summed (cones_in white cones.now) }
 {
     let mut sums = Sums { L: 0, a: 0, b: 0 };
-    let mut i = 0;
-    while i < xs.len() {
-        let p = place_reading(reading_at(kind, xs, ys, zs, i), white);
-        match p {
-            Placed::At(colour) => {
-                sums = with_colour(sums, colour);
-            }
-            Placed::Refused(n) => {
-                return Summed::Refused(n, i as u32);
-            }
-        }
-        i += 1;
+    for i in 0..cones.len() {
+        let colour = place(cones.reading(i), white).map_err(|refusal| RefusedCone {
+            refusal,
+            cone: i as u32,
+        })?;
+        sums = with_colour(sums, colour);
     }
-    Summed::Of(sums)
+    Ok(sums)
 }
 
 // The mean colour of n cones.

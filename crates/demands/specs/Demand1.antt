@@ -9,14 +9,14 @@
 -- numbers and the rows, one for each number, are the fields of `LoadByValue`, `LoadByCall` and so on, which stand in
 -- crates/calls/specs/Exactly.antt. A sort hands back a struct and writes a lent slice, for a host in Rattle (`sort` of
 -- crates/delivery) and from C alike: its contract is `Sorts ..`. Assumes nothing.
-use Rattle.std.specs.Prelude.{◌≡◌, List, [], ◌∷◌, ℕ, Float, length}
+use Rattle.std.specs.Prelude.{◌≡◌, List, [], ◌∷◌, ℕ, Float, length, None}
 use Rattle.std.proofs.Common.{sym, ap, ap₂, subst, ◌∙◌}
-use Rattle.colour.specs.declared.placed.Reading.{Reading}
-use Rattle.colour.specs.declared.placed.Reading.TheVariants.{Xyz, Lab}
+use Rattle.colour.specs.Placed.{Reading}
+use Rattle.colour.specs.declared.placed.Values.TheVariants.{Xyz, Lab}
 use Rattle.cones.specs.InTurn.{number_of, index_of}
 use Rattle.cones.specs.Cones.{readings_of}
-use Rattle.cones.specs.declared.Kind.{Kind}
-use Rattle.cones.specs.declared.Kind.TheVariants as K
+use Rattle.colour.specs.declared.placed.Space.{Space}
+use Rattle.colour.specs.declared.placed.Space.TheVariants as Space
 use Rattle.delivery.specs.Sorted.{is_shaped, refused_with, sort_call, Sorts}
 use Rattle.delivery.proofs.Theorems.Sorted.Laws.{answer-number, answer-cone, refusal-kept}
 use Rattle.delivery.specs.declared.sorted.Sorted.{Sorted}
@@ -25,7 +25,6 @@ use Rattle.ticket.specs.Ticket.Grammar.{WrongAt}
 use Rattle.ticket.proofs.Theorems.Ticket.Grammar.Wrong.{wrong_exactly}
 use Rattle.standard.specs.Acceptance.{settings_of}
 use Rattle.standard.specs.Figures.{no_reference, reference_answer, no_specimen, specimen_answer}
-use Rattle.standard.specs.declared.figures.Named.TheVariants.{Nothing}
 use Rattle.standard.specs.declared.figures.ReferenceAnswer.{ReferenceAnswer}
 use Rattle.standard.specs.declared.figures.SpecimenAnswer.{SpecimenAnswer}
 use Rattle.station.specs.Record.{decode}
@@ -48,7 +47,7 @@ use Rattle.calls.specs.Runs.{Call, slice_after}
 -- ---- BY VALUE: each number exactly then, and with any but 0 every figure is 0.0, and there is no name
 
 abbrev pub NoFigures : SpecimenAnswer → Type 0
-NoFigures a = (a.figures ≡ no_specimen) × (a.names ≡ Nothing)
+NoFigures a = (a.figures ≡ no_specimen) × (a.names ≡ None)
 
 -- whatever `load_figures` answers
 pub load-figures :
@@ -158,7 +157,7 @@ standard-stays xs call some = let same = station-kept xs call some in (same, ap 
 
 -- ---- A SORT
 
-module _ (k : Kind) (white l c : ℕ) (xs ys zs de : List Float) where
+module _ (k : Space) (white l c : ℕ) (xs ys zs de : List Float) where
   -- each number exactly then, with the cone that it is of; and with any but 0 every other field is 0 or 0.0, and no
   -- entry of the slice is written
   pub record SortGiven (r : Sorted) (left : List Float) : Type 0 where
@@ -188,12 +187,12 @@ module _ (k : Kind) (white l c : ℕ) (xs ys zs de : List Float) where
 
 -- `shade_sort_xyz`
 pub shade_sort_xyz_lem :
-    (white l c : ℕ) (x y z de : List Float) {r : Sorted} {left : List Float} → Sorts K.Xyz white l c x y z de r left →
-    SortGiven K.Xyz white l c x y z de r left
-shade_sort_xyz_lem white l c x y z de g = sort-given K.Xyz white l c x y z de g
+    (white l c : ℕ) (x y z de : List Float) {r : Sorted} {left : List Float} → Sorts Space.Xyz white l c x y z de r left →
+    SortGiven Space.Xyz white l c x y z de r left
+shade_sort_xyz_lem white l c x y z de g = sort-given Space.Xyz white l c x y z de g
 
 -- `shade_sort_lab`
 pub shade_sort_lab_lem :
     (white l c : ℕ) (lightness a b de : List Float) {r : Sorted} {left : List Float} →
-    Sorts K.Lab white l c lightness a b de r left → SortGiven K.Lab white l c lightness a b de r left
-shade_sort_lab_lem white l c lightness a b de g = sort-given K.Lab white l c lightness a b de g
+    Sorts Space.Lab white l c lightness a b de r left → SortGiven Space.Lab white l c lightness a b de r left
+shade_sort_lab_lem white l c lightness a b de g = sort-given Space.Lab white l c lightness a b de g

@@ -9,15 +9,14 @@
 -- (crates/shade/src/lib.rt). The sheet is crates/sheet/specs/Sheet.antt, the names are crates/names/specs/Names.antt,
 -- the report is crates/report/specs/Report.antt; which texts are a ticket says `Consists`,
 -- crates/ticket/specs/Ticket/Grammar.antt. Assumes nothing.
-use Rattle.std.specs.Prelude.{◌≡◌, true, ◌↔◌, ◌⊎◌, List, ℕ, ◌<◌, Float, length, get_or}
+use Rattle.std.specs.Prelude.{◌≡◌, true, ◌↔◌, ◌⊎◌, List, ℕ, ◌<◌, Float, length, get_or, Ok, Some, None, Err}
 use Rattle.std.proofs.Math.Path.{refl, ap}
 use Rattle.std.proofs.Common.{sym, ◌∙◌, subst}
 use Rattle.colour.specs.Conversion.{at_places}
 use Rattle.colour.specs.Placed.{place, place_written}
 use Rattle.colour.specs.declared.conversion.GridColour.{GridColour}
-use Rattle.colour.specs.declared.placed.Placed.TheVariants.{At}
-use Rattle.colour.specs.declared.placed.Reading.{Reading}
-use Rattle.colour.specs.declared.placed.Reading.TheVariants.{Lab}
+use Rattle.colour.specs.Placed.{Reading}
+use Rattle.colour.specs.declared.placed.Values.TheVariants.{Xyz, Lab}
 use Rattle.colour.specs.declared.white.White.{White}
 use Rattle.sheet.specs.Settings.{formula_numbered, Tolerance}
 use Rattle.sheet.specs.Sheet.{chroma_of, shift, sheet, comparison, verdict}
@@ -27,7 +26,7 @@ use Rattle.sheet.specs.declared.settings.Settings.{Settings}
 use Rattle.names.specs.Names.{lightness_name, chroma_name, hue_name}
 use Rattle.names.proofs.Theorems.Names.Withheld.{Achromatic}
 use Rattle.cones.specs.Cones.{readings_of, no_reading}
-use Rattle.cones.specs.declared.Kind.{Kind}
+use Rattle.colour.specs.declared.placed.Space.{Space}
 use Rattle.delivery.specs.Sorted.{Sorts}
 use Rattle.delivery.proofs.Theorems.Sorted.Exact.{Delivery, HandedBack as DeliveryHandedBack, sorted_by_the_sheet}
 use Rattle.delivery.proofs.Theorems.Sorted.Exact.{mean, cone, DE, mean_in_range, cone-placed}
@@ -40,8 +39,7 @@ use Rattle.ticket.proofs.Theorems.Ticket.AsWritten.{without, written, right_as_w
 use Rattle.ticket.specs.Ticket.Grammar.{Consists}
 use Rattle.ticket.proofs.Theorems.Ticket.Grammar.Right.{right_exactly}
 use Rattle.ticket.specs.declared.lines.Ticket.{Ticket}
-use Rattle.ticket.specs.declared.lines.Parsed.{Parsed}
-use Rattle.ticket.specs.declared.lines.Parsed.TheVariants.{Right, Wrong}
+use Rattle.ticket.specs.Ticket.{Parsed}
 use Rattle.standard.specs.Acceptance.{settings_of}
 use Rattle.standard.proofs.Theorems.Acceptance.Laws.{accepted_made, valid-accepted}
 use Rattle.standard.specs.Judgement.{judgement_of, outcome}
@@ -50,19 +48,14 @@ use Rattle.standard.proofs.Theorems.Judgement.Withheld.{judgement-withheld}
 use Rattle.standard.specs.Figures.{reference_answer, specimen_answer}
 use Rattle.standard.proofs.Theorems.Figures.Exact.{ReferenceExact, SpecimenExact}
 use Rattle.standard.specs.declared.accept.Standard.{Standard}
-use Rattle.standard.specs.declared.accept.SettingsOf.TheVariants.{Are}
-use Rattle.standard.specs.declared.accept.Acceptance.TheVariants.{Accepted}
-use Rattle.standard.specs.declared.figures.Named.TheVariants.{Names}
 use Rattle.standard.specs.declared.judge.Judgement.{Judgement}
-use Rattle.standard.specs.declared.judge.Outcome.{Outcome}
-use Rattle.standard.specs.declared.judge.Outcome.TheVariants.{Judged}
+use Rattle.standard.specs.Judgement.{Outcome}
 use Rattle.station.specs.Record.{decode, zeros}
 use Rattle.station.specs.Runs.{fresh, last_accepted}
-use Rattle.station.specs.declared.Station.TheVariants.{Empty, Holds}
 use Rattle.calls.specs.Outcome.{loaded, judged_by, judge_faults, ticket_outcome, ticket_faults}
 use Rattle.calls.proofs.Theorems.Outcome.Load.{accepted-load}
-use Rattle.calls.proofs.Theorems.Outcome.Judge.{judged-said, judge-number, judge-room, judge_some}
-use Rattle.calls.proofs.Theorems.Outcome.Ticket.{ticket-said, ticket-number, ticket-room, ticket_some}
+use Rattle.calls.proofs.Theorems.Outcome.Judge.{judged-said, judge-number, judge-room}
+use Rattle.calls.proofs.Theorems.Outcome.Ticket.{ticket-said, ticket-number, ticket-room}
 use Rattle.calls.specs.Line.{ticket_answer}
 use Rattle.calls.specs.Calls.{Answer, load_call, judge_call, ticket_call, reported as reported_by}
 use Rattle.calls.proofs.Theorems.Calls.Every.{place_back}
@@ -106,10 +99,12 @@ of_the_sheet {j} is =
 -- names
 pub record HandedBack (o : Outcome) (j : Judgement) : Type 0 where
   pub figures : SpecimenExact j (specimen_answer o).figures
-  pub names : (specimen_answer o).names ≡ Names j.lightness j.chroma j.hue j.verdict
+  pub names :
+      (specimen_answer o).names
+      ≡ Some (record { lightness = j.lightness; chroma = j.chroma; hue = j.hue; verdict = j.verdict })
 
 pub handed_back :
-    {o : Outcome} {j : Judgement} → o ≡ Judged j → SpecimenExact j (specimen_answer o).figures → HandedBack o j
+    {o : Outcome} {j : Judgement} → o ≡ Ok j → SpecimenExact j (specimen_answer o).figures → HandedBack o j
 unfolding specimen_answer
 handed_back e exact = record { figures = exact; names = rw e }
 
@@ -117,13 +112,13 @@ handed_back e exact = record { figures = exact; names = rw e }
 
 -- s is what these numbers and this reading name; L*, a*, b*, C, SL, SC and SH are handed back exactly
 pub record LoadedAs (formula white l c tolerance : ℕ) (r : Reading) (s : Standard) : Type 0 where
-  pub settings : settings_of formula white l c tolerance ≡ Are s.settings
-  pub colour : place s.settings.white r ≡ At s.colour
+  pub settings : settings_of formula white l c tolerance ≡ Ok s.settings
+  pub colour : place s.settings.white r ≡ Ok s.colour
   pub figures : ReferenceExact s (reference_answer (loaded (settings_of formula white l c tolerance) r)).figures
 
 pub loaded_by_the_sheet :
     (formula white l c tolerance : ℕ) (r : Reading) {s : Standard} →
-    loaded (settings_of formula white l c tolerance) r ≡ Accepted s → LoadedAs formula white l c tolerance r s
+    loaded (settings_of formula white l c tolerance) r ≡ Ok s → LoadedAs formula white l c tolerance r s
 loaded_by_the_sheet formula white l c tolerance r e =
     let of = accepted-load formula white l c tolerance r e in
     record {
@@ -136,8 +131,8 @@ loaded_by_the_sheet formula white l c tolerance r e =
 
 -- by the standard that the slice holds, of the colour that was read in its white
 pub record JudgedBy (xs : List ℕ) (r : Reading) (j : Judgement) : Type 0 where
-  pub held : decode xs ≡ Holds j.standard
-  pub test : place j.standard.settings.white r ≡ At j.test
+  pub held : decode xs ≡ Some j.standard
+  pub test : place j.standard.settings.white r ≡ Ok j.test
   pub sheet : OfTheSheet j.standard.settings j.standard.colour j.test j
   pub handed : HandedBack (judged_by (decode xs) r) j
 
@@ -150,7 +145,7 @@ pub judge-report :
 unfolding judge_call
 judge-report xs r room column e =
     reported (judge_faults (decode xs) r) _ (judge-number (decode xs) r) (judge-room (decode xs) r)
-    (λ m h. judge_some (decode xs) r h) room column e
+    room column e
 
 -- ---- a ticket
 
@@ -159,8 +154,8 @@ pub record JudgedIn (text : List ℕ) (j : Judgement) : Type 0 where
   pub ticket : Ticket
   pub consists : Consists ticket text
   pub settings : j.standard.settings ≡ ticket.settings
-  pub reference : place_written ticket.settings.white ticket.reference ≡ At j.standard.colour
-  pub test : place_written ticket.settings.white ticket.test ≡ At j.test
+  pub reference : place_written ticket.settings.white ticket.reference ≡ Ok j.standard.colour
+  pub test : place_written ticket.settings.white ticket.test ≡ Ok j.test
   pub sheet : OfTheSheet j.standard.settings j.standard.colour j.test j
   pub handed : HandedBack (ticket_outcome (ticket_of text)) j
 
@@ -172,7 +167,7 @@ pub ticket-report :
 unfolding ticket_call
 ticket-report text room column e =
     reported (ticket_faults (ticket_of text)) _ (ticket-number (ticket_of text)) (ticket-room (ticket_of text))
-    (λ m h. ticket_some (ticket_of text) h) room column e
+    room column e
 
 -- WITHOUT THE LINES L AND C, its first two lines right and r starting with tol=, a ticket comes to what it comes to
 -- with l=2.000 and c=1.000 in their places. `without` and `written` are the two texts, in
@@ -186,9 +181,9 @@ module _ (f : Formula) (w : White) (r : List ℕ) (tol : starts_with (ascii "tol
       go :
           (p : Parsed) → ticket_of (without f w r) ≡ p → (q : Parsed) → ticket_of (written f w r) ≡ q
           → ticket_outcome p ≡ ticket_outcome q
-      go (Right t) e q g = ap ticket_outcome (sym ((right_as_written f w r tol).0 e) ∙ g)
-      go (Wrong m) e (Right t) g = ap ticket_outcome (sym e ∙ (right_as_written f w r tol).1 g)
-      go (Wrong m) e (Wrong n) g = refl
+      go (Ok t) e q g = ap ticket_outcome (sym ((right_as_written f w r tol).0 e) ∙ g)
+      go (Err m) e (Ok t) g = ap ticket_outcome (sym e ∙ (right_as_written f w r tol).1 g)
+      go (Err m) e (Err n) g = refl
 
   -- and over slices
   pub call_as_written :
@@ -207,7 +202,7 @@ module _
     load_answer = load_call zeros formula white l c tolerance r
 
     pub ticket_is_both :
-        ticket_outcome (Right t)
+        ticket_outcome (Ok t)
         ≡ once_loaded (loaded (settings_of formula white l c tolerance) r) (judged_by (decode load_answer.bytes) q)
     ticket_is_both = ticket_does_both same
 
@@ -242,7 +237,7 @@ module _ (cs : List Call) where
 
   -- OR THE REFUSAL IF NONE WAS ACCEPTED: 9, and the room as it was
   pub none_accepted :
-      last_accepted (loads cs) ≡ Empty → (r : Reading) (room : List ℕ) (column : ℕ) →
+      last_accepted (loads cs) ≡ None → (r : Reading) (room : List ℕ) (column : ℕ) →
       judge_call (slice_after zeros cs) r room column ≡ record { number = 9; bytes = room }
   unfolding fresh
   none_accepted none r room column =
@@ -254,21 +249,21 @@ module _ (cs : List Call) where
 -- the colours of all cones, `HandedBack` the mean, each cone's DE, the entries past the count and the farthest, in
 -- crates/delivery/proofs/Theorems/Sorted/Exact.antt. No station is read or written
 pub sorted_as :
-    (k : Kind) (white l c : ℕ) (xs ys zs de : List Float) {r : Sorted} {left : List Float} →
+    (k : Space) (white l c : ℕ) (xs ys zs de : List Float) {r : Sorted} {left : List Float} →
     Sorts k white l c xs ys zs de r left → r.number ≡ 0 →
     (d : Delivery k white l c xs ys zs de) × DeliveryHandedBack d r left
 sorted_as k white l c xs ys zs de g none = sorted_by_the_sheet k white l c xs ys zs de g none
 
 -- its mean, as it was handed back, is read as the mean in any white
 pub mean_as_a_standard :
-    (k : Kind) (white l c : ℕ) (xs ys zs de : List Float) {r : Sorted} {left : List Float}
+    (k : Space) (white l c : ℕ) (xs ys zs de : List Float) {r : Sorted} {left : List Float}
     (d : Delivery k white l c xs ys zs de) → DeliveryHandedBack d r left →
-    (w : White) → place w (Lab r.lightness r.a r.b) ≡ At (mean d)
+    (w : White) → place w (Lab r.lightness r.a r.b) ≡ Ok (mean d)
 mean_as_a_standard k white l c xs ys zs de d h w =
     rw (h.lightness.is, h.a.is, h.b.is) (place_back w (mean d) (mean_in_range d))
 
 -- under CMC with the same white, l and c
-module _ (k : Kind) (white l c : ℕ) (xs ys zs de : List Float) (d : Delivery k white l c xs ys zs de) (tolerance : ℕ)
+module _ (k : Space) (white l c : ℕ) (xs ys zs de : List Float) (d : Delivery k white l c xs ys zs de) (tolerance : ℕ)
   where
     abbrev pub mean_standard : Standard
     mean_standard =
@@ -280,7 +275,7 @@ module _ (k : Kind) (white l c : ℕ) (xs ys zs de : List Float) (d : Delivery k
     -- it is loaded as a standard, by any tolerance in its range
     pub mean-loaded :
         {r : Sorted} {left : List Float} → DeliveryHandedBack d r left → Tolerance tolerance →
-        loaded (settings_of 3 white l c tolerance) (Lab r.lightness r.a r.b) ≡ Accepted mean_standard
+        loaded (settings_of 3 white l c tolerance) (Lab r.lightness r.a r.b) ≡ Ok mean_standard
     unfolding loaded settings_of formula_numbered
     mean-loaded h in_range =
         rw (d.white_is, mean_as_a_standard k white l c xs ys zs de d h d.in_white)
@@ -295,8 +290,8 @@ module _ (k : Kind) (white l c : ℕ) (xs ys zs de : List Float) (d : Delivery k
     -- and by it the reading of cone i is judged, with the DE of the sort
     module _ (i : ℕ) (few : i < length xs) where
       pub judged_by_the_mean :
-          judged_by (Holds mean_standard) (get_or (readings_of k xs ys zs) i no_reading)
-          ≡ Judged (judgement_of mean_standard (cone d i))
+          judged_by (Some mean_standard) (get_or (readings_of k xs ys zs) i no_reading)
+          ≡ Ok (judgement_of mean_standard (cone d i))
       unfolding judged_by outcome
       judged_by_the_mean = rw (cone-placed d i few)
 

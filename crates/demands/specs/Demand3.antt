@@ -9,12 +9,12 @@
 -- It counts units of 2 ^ -n; l, c and the tolerance count thousandths. So in thousandths of a unit of 2 ^ -n DE is
 -- 1000 * DE n, the tolerance is tolerance * 2 ^ n, and 0.002 is 2 * 2 ^ n. The argument is in crates/finer;
 -- docs/FINER.md is its guide. Assumes nothing.
-use Rattle.std.specs.Prelude.{◌≡◌, refl, List, ℕ, ◌-◌, ◌*◌, ◌^◌, ◌≤◌, ◌<◌, Float, length}
+use Rattle.std.specs.Prelude.{◌≡◌, refl, List, ℕ, ◌-◌, ◌*◌, ◌^◌, ◌≤◌, ◌<◌, Float, length, Ok}
 use Rattle.std.proofs.Common.{sym, subst, arith}
 use Rattle.rounding.specs.Nearest.{apart}
 use Rattle.colour.specs.Conversion.Ranges.{OnGrid}
 use Rattle.colour.specs.declared.conversion.GridColour.{GridColour}
-use Rattle.colour.specs.declared.placed.Reading.{Reading}
+use Rattle.colour.specs.Placed.{Reading}
 use Rattle.sheet.specs.Settings.{Factor, Tolerance}
 use Rattle.sheet.specs.Sheet.{sheet, verdict}
 use Rattle.sheet.specs.declared.formula.Formula.{Formula}
@@ -22,14 +22,13 @@ use Rattle.sheet.specs.declared.formula.Formula.TheVariants.{CMC}
 use Rattle.sheet.specs.declared.verdict.Verdict.TheVariants.{Near, Pass, Fail}
 use Rattle.finer.specs.Finer.{VerdictKept}
 use Rattle.finer.proofs.Theorems.Finer.{no_finer_sheet_changes_a_verdict}
-use Rattle.cones.specs.declared.Kind.{Kind}
+use Rattle.colour.specs.declared.placed.Space.{Space}
 use Rattle.delivery.specs.Delivery.{difference_from}
 use Rattle.delivery.proofs.Theorems.Sorted.Exact.{Delivery, mean, cone, DE as DE-of, cone_on_grid, mean_in_range}
 use Rattle.ticket.specs.Ticket.{ticket_of}
 use Rattle.standard.specs.Judgement.{judgement_of, Specimen}
 use Rattle.standard.proofs.Theorems.Judgement.Laws.{verdict_is}
 use Rattle.standard.specs.declared.judge.Judgement.{Judgement}
-use Rattle.standard.specs.declared.judge.Outcome.TheVariants.{Judged}
 use Rattle.station.specs.Record.{decode}
 use Rattle.calls.specs.Outcome.{judged_by, ticket_outcome}
 use Rattle.calls.proofs.Theorems.Outcome.Judge.{judged-said}
@@ -98,23 +97,23 @@ given {j} is asked =
     })
 
 -- A JUDGEMENT'S, whatever the slice holds and whatever is read
-pub judgement-given : (xs : List ℕ) (r : Reading) {j : Judgement} → judged_by (decode xs) r ≡ Judged j → Given j
+pub judgement-given : (xs : List ℕ) (r : Reading) {j : Judgement} → judged_by (decode xs) r ≡ Ok j → Given j
 judgement-given xs r e = let said = judged-said xs r e in given said.is said.asked
 
 -- A TICKET'S, whatever its text is
-pub ticket-given : (text : List ℕ) {j : Judgement} → ticket_outcome (ticket_of text) ≡ Judged j → Given j
+pub ticket-given : (text : List ℕ) {j : Judgement} → ticket_outcome (ticket_of text) ≡ Ok j → Given j
 ticket-given text e = let said = ticket-said (ticket_of text) e in given said.is said.asked
 
 -- ---- of every cone that is sorted
 
 -- the sheet of cone i against the mean, at n places
 abbrev pub cone_de :
-    {k : Kind} {white l c : ℕ} {xs ys zs de : List Float} → Delivery k white l c xs ys zs de → (i n : ℕ) → ℕ
+    {k : Space} {white l c : ℕ} {xs ys zs de : List Float} → Delivery k white l c xs ys zs de → (i n : ℕ) → ℕ
 cone_de {l = l} {c = c} d i n = (sheet n CMC l c (mean d) (cone d i)).DE
 
 -- A CONE'S, against the mean as it stands on the grid, whatever is sorted, and at any tolerance that it is held to
 pub cone-kept :
-    {k : Kind} {white l c : ℕ} {xs ys zs de : List Float} (d : Delivery k white l c xs ys zs de) (i : ℕ) →
+    {k : Space} {white l c : ℕ} {xs ys zs de : List Float} (d : Delivery k white l c xs ys zs de) (i : ℕ) →
     i < length xs → {tolerance : ℕ} → Tolerance tolerance → (n : ℕ) → 20 ≤ n →
     VerdictKept n tolerance (cone_de d i 20) (cone_de d i n)
 cone-kept d i few in_range n from20 =
@@ -122,7 +121,7 @@ cone-kept d i few in_range n from20 =
 
 -- SO WHERE ITS DE IS AT MOST 10, NO FINER SHEET MOVES IT BY 0.002 OR MORE
 pub cone_moves_by_less :
-    {k : Kind} {white l c : ℕ} {xs ys zs de : List Float} (d : Delivery k white l c xs ys zs de) (i : ℕ) →
+    {k : Space} {white l c : ℕ} {xs ys zs de : List Float} (d : Delivery k white l c xs ys zs de) (i : ℕ) →
     i < length xs → cone_de d i 20 ≤ 10 * 2 ^ 20 → (n : ℕ) → 20 ≤ n →
     1000 * apart (cone_de d i n) (2 ^ (n - 20) * cone_de d i 20) < 2 * 2 ^ n
 cone_moves_by_less d i few small n from20 =
@@ -130,7 +129,7 @@ cone_moves_by_less d i few small n from20 =
 
 -- and the DE that a sort hands back of cone i is this one at 20 places (`sorted_as`, Demand2.antt)
 pub handed_back_at_20 :
-    {k : Kind} {white l c : ℕ} {xs ys zs de : List Float} (d : Delivery k white l c xs ys zs de) (i : ℕ) →
+    {k : Space} {white l c : ℕ} {xs ys zs de : List Float} (d : Delivery k white l c xs ys zs de) (i : ℕ) →
     DE-of d i ≡ cone_de d i 20
 unfolding difference_from
 handed_back_at_20 d i = refl

@@ -2,15 +2,15 @@
 -- one: whatever the station's slice or the ticket holds, and whatever is read. `Longest/Reached.antt` has a report of
 -- just as many; `proofs/Theorems/Longest.antt` says it of every call, `proofs/Theorems/Longest/Printed.antt` of what the
 -- program prints. Assumes nothing.
-use Rattle.std.specs.Prelude.{◌≡◌, refl, List, ◌∷◌, ℕ, ◌+◌, ◌≤◌, ◌<◌, length}
+use Rattle.std.specs.Prelude.{◌≡◌, refl, List, ◌∷◌, ℕ, ◌+◌, ◌≤◌, ◌<◌, length, Ok}
 use Rattle.std.proofs.Common.{sym, subst, arith, le-leb}
 use Rattle.colour.specs.Conversion.{at_places}
 use Rattle.colour.specs.declared.conversion.GridColour.{GridColour}
-use Rattle.colour.specs.declared.placed.Reading.{Reading}
+use Rattle.colour.specs.Placed.{Reading}
 use Rattle.sheet.specs.Sheet.{shift, differences, sheet, comparison}
 use Rattle.sheet.specs.declared.shift.Shift.{Shift}
 use Rattle.ticket.specs.Ticket.{ticket_of}
-use Rattle.ticket.specs.declared.lines.Parsed.{Parsed}
+use Rattle.ticket.specs.Ticket.{Parsed}
 use Rattle.report.specs.Report.{report_text}
 use Rattle.report.specs.Report.Longest.{Printable, report-length-le}
 use Rattle.report.specs.Write.{has_room}
@@ -20,8 +20,7 @@ use Rattle.standard.specs.Judgement.{judgement_of, Specimen}
 use Rattle.standard.proofs.Theorems.Judgement.Laws.{in_range}
 use Rattle.standard.specs.declared.accept.Standard.{Standard}
 use Rattle.standard.specs.declared.judge.Judgement.{Judgement}
-use Rattle.standard.specs.declared.judge.Outcome.{Outcome}
-use Rattle.standard.specs.declared.judge.Outcome.TheVariants.{Refused, Judged}
+use Rattle.standard.specs.Judgement.{Outcome}
 use Rattle.station.specs.Record.{decode}
 use Rattle.calls.specs.Outcome.{judged_by, ticket_outcome}
 use Rattle.calls.specs.Outcome.Each.{judge_each, ticket_each}
@@ -58,7 +57,7 @@ no_longer_report s T h = report-length-le _ (printable h)
 
 -- whatever is judged, its report is no longer
 abbrev pub Short : Outcome → Type 0
-Short o = (j : Judgement) → o ≡ Judged j → length (report_text j) ≤ 161
+Short o = (j : Judgement) → o ≡ Ok j → length (report_text j) ≤ 161
 
 -- ---- 161 BYTES FROM THE COLUMN ON ARE ENOUGH FOR EVERY REPORT: with so many, no call is refused for want of room
 

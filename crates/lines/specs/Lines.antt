@@ -1,5 +1,6 @@
 -- docs/SCOPE.md 10: what the lines of a report say after their key. `Lines/Nearest.antt` says which figures they show,
--- `Lines/Laws.antt` has the pieces of a hue, `Lines/Longest.antt` how long each can be. Assumes nothing.
+-- `Lines/Words.antt` how long each word can be, `Lines/Laws.antt` has the pieces of a hue, `Lines/Longest.antt` how long
+-- each line can be. Assumes nothing.
 use Rattle.std.specs.Prelude.{Bool, false, cond, List, [], ◌∷◌, ℕ, ◌^◌, ℤ}
 use Rattle.rounding.specs.Signed.{∣◌∣, minus}
 use Rattle.sheet.specs.declared.verdict.Verdict.{Verdict}
@@ -17,6 +18,7 @@ use Rattle.text.specs.Put.{joined}
 use Rattle.text.specs.Decimal.{with_places, shown_as}
 use Rattle.text.specs.declared.decimal.Shown.{Shown}
 pub mod Nearest
+pub mod Words
 pub mod Laws
 pub mod Longest
 

@@ -1,6 +1,6 @@
 -- Any two outcomes that a contract of `lines` admits on one input are equal: a length, or the index after the line and
--- the bytes of the lent slice; a field for each function, under its name. A contract that is one equation is not
--- listed. Assumes nothing.
+-- the bytes of the lent slice; a field for each function, under its name, and for `word_len` and `put_word` one for each
+-- line that they say too. A contract that is one equation is not listed. Assumes nothing.
 use Rattle.std.specs.Prelude.{Bool, false, List, ℕ, ℤ}
 use Rattle.colour.specs.declared.white.White.{White}
 use Rattle.sheet.specs.declared.formula.Formula.{Formula}
@@ -21,6 +21,7 @@ pub record LengthsOne : Type 0 where
   pub thousandths_len_lem : (m : ℕ) → LengthOne (decimal_text (thousandths m)) 25
   pub figure_len_lem : (m : ℕ) → LengthOne (decimal_text (figure false m)) 26
   pub signed_len_lem : (z : ℤ) → LengthOne (decimal_text (signed_figure z)) 26
+  pub word_len_lem : (word : List ℕ) (most : ℕ) → LengthOne word most
   pub formula_len_lem : (f : Formula) → LengthOne (formula_name f) 6
   pub white_len_lem : (w : White) → LengthOne (white_name w) 6
   pub lightness_len : (x : Lightness) → LengthOne (lightness_word x) 7
@@ -33,6 +34,7 @@ lengths_one = record {
   thousandths_len_lem = λ m. length_one (decimal_text (thousandths m)) 25;
   figure_len_lem = λ m. length_one (decimal_text (figure false m)) 26;
   signed_len_lem = λ z. length_one (decimal_text (signed_figure z)) 26;
+  word_len_lem = λ word most. length_one word most;
   formula_len_lem = λ f. length_one (formula_name f) 6;
   white_len_lem = λ w. length_one (white_name w) 6;
   lightness_len = λ x. length_one (lightness_word x) 7;
@@ -47,6 +49,7 @@ pub record LinesOne (xs : List ℕ) (at : ℕ) : Type 0 where
   pub put-chromatic :
       (withheld : Bool) (key : List ℕ) (d : Shown) →
       PutsOne xs at (line key (unless_withheld withheld (decimal_text d)))
+  pub put-word : (key word : List ℕ) → PutsOne xs at (line key word)
   pub put-formula : (f : Formula) → PutsOne xs at (line (ascii "formula=") (formula_name f))
   pub put-white : (w : White) → PutsOne xs at (line (ascii "white=") (white_name w))
   pub put-lightness : (x : Lightness) → PutsOne xs at (line (ascii "lightness=") (lightness_word x))
@@ -61,6 +64,7 @@ pub lines_one : (xs : List ℕ) (at : ℕ) → LinesOne xs at
 lines_one xs at = record {
   put-number = λ key d. puts_one _ _ _;
   put-chromatic = λ withheld key d. puts_one _ _ _;
+  put-word = λ key word. puts_one _ _ _;
   put-formula = λ f. puts_one _ _ _;
   put-white = λ w. puts_one _ _ _;
   put-lightness = λ x. puts_one _ _ _;

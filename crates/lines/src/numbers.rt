@@ -4,6 +4,7 @@ ghost use Rattle.text.specs.Decimal.{decimal_text};
 ghost use Rattle.text.specs.Put.{Room, Puts, line};
 ghost use Rattle.lines.specs.Lines.{thousandths, figure, signed_figure, unless_withheld};
 
+use crate::words::put_line;
 use reading::grid::Grid;
 use rounding::signed::magnitude;
 use text::decimal::{Shown, decimal_len, put_decimal};
@@ -31,7 +32,7 @@ pub fn figure_of(below: bool, m: u64) -> Shown
         + (rest + Grid::UNITS_IN_ONE / 2) / Grid::UNITS_IN_ONE;
     Shown {
         places: 4,
-        minus: if below { 0 < units } else { false },
+        minus: below && 0 < units,
         whole: units / 10000,
         units,
     }
@@ -44,6 +45,7 @@ pub fn signed_figure(z: i64) -> Shown
     figure_of(z < 0, magnitude(z))
 }
 
+// Each kind's length has a bound that names no `Shown`: by it the report's sums fit.
 pub fn thousandths_len(m: u64) -> usize
     ensures { (result ≡ length (decimal_text (thousandths m))) × (result ≤ 25) }
 {
@@ -78,8 +80,7 @@ pub fn put_chromatic(dst: &mut [u8], at: usize, withheld: bool, key: &[u8], d: S
         dst.new }
 {
     if withheld {
-        let after_key = put(dst, at, key);
-        return put(dst, after_key, b"withheld\n");
+        return put_line(dst, at, key, b"withheld");
     }
     put_number(dst, at, key, d)
 }

@@ -1,10 +1,12 @@
-// The lines that say a name: how many bytes the name takes, and the line put into a lent slice.
-ghost use Rattle.std.specs.Prelude.{◌≡◌, ◌≤◌, length};
+// The lines that say a word: how many bytes the word takes, and the line put into a lent slice.
+ghost use Rattle.std.specs.Prelude.{◌≡◌, ℕ, ◌≤◌, List, length, max};
+ghost use Rattle.std.proofs.Common.{rules};
 ghost use Rattle.text.specs.Ascii.{ascii};
 ghost use Rattle.text.specs.Names.{formula_name, white_name};
 ghost use Rattle.text.specs.Put.{Room, Puts, joined, line};
 ghost use Rattle.lines.specs.Lines.{lightness_word, chroma_word, axis_word, hue_word, verdict_word, unless_withheld};
 ghost use Rattle.lines.specs.Lines.Laws.{axes_pieces};
+ghost use Rattle.lines.specs.Lines.Words.{formula_most, white_most, lightness_most, chroma_most, axis_most, verdict_most, unless_most};
 
 use colour::white::White;
 use names::{Axis, Chroma, Hue, Lightness};
@@ -12,134 +14,172 @@ use sheet::formula::Formula;
 use sheet::verdict::Verdict;
 use text::put::put;
 
-pub fn formula_len(f: Formula) -> usize
-    ensures { (result ≡ length (formula_name f)) × (result ≤ 6) }
-{
-    match f {
-        Formula::CIELAB => 6,
-        Formula::CIE94 => 5,
-        Formula::CMC => 3,
+// What is said by one word of a few.
+pub trait Word: Copy {
+    ghost word: { Self → List ℕ };
+
+    // How many bytes the longest of the words has.
+    ghost most: { ℕ };
+
+    fn text(self) -> &'static [u8]
+        ensures { result.now ≡ word self };
+
+    ghost at_most: { (x : Self) → length (word x) ≤ most };
+}
+
+impl Word for Formula {
+    ghost word = { formula_name };
+
+    ghost most = { 6 };
+
+    ghost at_most = { formula_most };
+
+    fn text(self) -> &'static [u8] {
+        match self {
+            Formula::CIELAB => b"CIELAB",
+            Formula::CIE94 => b"CIE94",
+            Formula::CMC => b"CMC",
+        }
     }
 }
 
-#[tactic(auto, unfolding(text::specs::Put::line))]
-pub fn put_formula(dst: &mut [u8], at: usize, f: Formula) -> usize
-    requires { Room dst.old at (line (ascii "formula=") (formula_name f)) }
-    ensures { Puts dst.old at (line (ascii "formula=") (formula_name f)) result dst.new }
-{
-    match f {
-        Formula::CIELAB => put(dst, at, b"formula=CIELAB\n"),
-        Formula::CIE94 => put(dst, at, b"formula=CIE94\n"),
-        Formula::CMC => put(dst, at, b"formula=CMC\n"),
+impl Word for White {
+    ghost word = { white_name };
+
+    ghost most = { 6 };
+
+    ghost at_most = { white_most };
+
+    fn text(self) -> &'static [u8] {
+        match self {
+            White::D65Ten => b"D65/10",
+            White::D65Two => b"D65/2",
+            White::CTen => b"C/10",
+            White::CTwo => b"C/2",
+        }
     }
 }
 
-pub fn white_len(w: White) -> usize
-    ensures { (result ≡ length (white_name w)) × (result ≤ 6) }
-{
-    match w {
-        White::D65Ten => 6,
-        White::D65Two => 5,
-        White::CTen => 4,
-        White::CTwo => 3,
+impl Word for Lightness {
+    ghost word = { lightness_word };
+
+    ghost most = { 7 };
+
+    ghost at_most = { lightness_most };
+
+    fn text(self) -> &'static [u8] {
+        match self {
+            Lightness::Lighter => b"lighter",
+            Lightness::Darker => b"darker",
+            Lightness::Equal => b"equal",
+        }
     }
 }
 
-#[tactic(auto, unfolding(text::specs::Put::line))]
-pub fn put_white(dst: &mut [u8], at: usize, w: White) -> usize
-    requires { Room dst.old at (line (ascii "white=") (white_name w)) }
-    ensures { Puts dst.old at (line (ascii "white=") (white_name w)) result dst.new }
-{
-    match w {
-        White::D65Ten => put(dst, at, b"white=D65/10\n"),
-        White::D65Two => put(dst, at, b"white=D65/2\n"),
-        White::CTen => put(dst, at, b"white=C/10\n"),
-        White::CTwo => put(dst, at, b"white=C/2\n"),
+impl Word for Chroma {
+    ghost word = { chroma_word };
+
+    ghost most = { 5 };
+
+    ghost at_most = { chroma_most };
+
+    fn text(self) -> &'static [u8] {
+        match self {
+            Chroma::More => b"more",
+            Chroma::Less => b"less",
+            Chroma::Equal => b"equal",
+        }
     }
 }
 
-pub fn lightness_len(x: Lightness) -> usize
-    ensures { (result ≡ length (lightness_word x)) × (result ≤ 7) }
-{
-    match x {
-        Lightness::Lighter => 7,
-        Lightness::Darker => 6,
-        Lightness::Equal => 5,
+impl Word for Axis {
+    ghost word = { axis_word };
+
+    ghost most = { 8 };
+
+    ghost at_most = { axis_most };
+
+    fn text(self) -> &'static [u8] {
+        match self {
+            Axis::Redder => b"redder",
+            Axis::Yellower => b"yellower",
+            Axis::Greener => b"greener",
+            Axis::Bluer => b"bluer",
+        }
     }
 }
 
-#[tactic(auto, unfolding(text::specs::Put::line))]
-pub fn put_lightness(dst: &mut [u8], at: usize, x: Lightness) -> usize
-    requires { Room dst.old at (line (ascii "lightness=") (lightness_word x)) }
-    ensures { Puts dst.old at (line (ascii "lightness=") (lightness_word x)) result dst.new }
-{
-    match x {
-        Lightness::Lighter => put(dst, at, b"lightness=lighter\n"),
-        Lightness::Darker => put(dst, at, b"lightness=darker\n"),
-        Lightness::Equal => put(dst, at, b"lightness=equal\n"),
+impl Word for Verdict {
+    ghost word = { verdict_word };
+
+    ghost most = { 4 };
+
+    ghost at_most = { verdict_most };
+
+    fn text(self) -> &'static [u8] {
+        match self {
+            Verdict::Near => b"near",
+            Verdict::Pass => b"pass",
+            Verdict::Fail => b"fail",
+        }
     }
 }
 
-pub fn chroma_len(withheld: bool, x: Chroma) -> usize
-    ensures { (result ≡ length (unless_withheld withheld (chroma_word x))) × (result ≤ 8) }
-{
-    if withheld {
-        return 8;
-    }
-    match x {
-        Chroma::More => 4,
-        Chroma::Less => 4,
-        Chroma::Equal => 5,
+// A word that may be withheld. Both, and no Option: a judgement hands its word back, whatever a report withholds.
+#[derive(Clone, Copy)]
+pub struct Unless<W> {
+    pub withheld: bool,
+    pub word: W,
+}
+
+impl<W: Word> Word for Unless<W> {
+    ghost word = { λ u. unless_withheld u.withheld (W.word u.word) };
+
+    ghost most = { max 8 W.most };
+
+    ghost at_most = { λ u. unless_most u.withheld _ (W.at_most u.word) };
+
+    fn text(self) -> &'static [u8] {
+        if self.withheld {
+            b"withheld"
+        } else {
+            self.word.text()
+        }
     }
 }
 
-#[tactic(auto, unfolding(text::specs::Put::line))]
-pub fn put_chroma(dst: &mut [u8], at: usize, withheld: bool, x: Chroma) -> usize
-    requires { Room dst.old at (line (ascii "chroma=") (unless_withheld withheld (chroma_word x))) }
-    ensures { Puts dst.old at (line (ascii "chroma=") (unless_withheld withheld (chroma_word x))) result
-        dst.new }
+pub fn word_len<W: Word>(w: W) -> usize
+    ensures { (result ≡ length (W.word w)) × (result ≤ W.most) }
 {
-    if withheld {
-        return put(dst, at, b"chroma=withheld\n");
-    }
-    match x {
-        Chroma::More => put(dst, at, b"chroma=more\n"),
-        Chroma::Less => put(dst, at, b"chroma=less\n"),
-        Chroma::Equal => put(dst, at, b"chroma=equal\n"),
-    }
+    w.text().len()
 }
 
-fn axis_len(x: Axis) -> usize
-    ensures { (result ≡ length (axis_word x)) × (result ≤ 8) }
+// dst and at by themselves: a cursor that holds both would have each contract add that it still lends the same slice.
+pub(crate) fn put_line(dst: &mut [u8], at: usize, key: &[u8], value: &[u8]) -> usize
+    requires { Room dst.old at (line key.now value.now) }
+    ensures { Puts dst.old at (line key.now value.now) result dst.new }
 {
-    match x {
-        Axis::Redder => 6,
-        Axis::Yellower => 8,
-        Axis::Greener => 7,
-        Axis::Bluer => 5,
-    }
+    let after_key = put(dst, at, key);
+    let after_value = put(dst, after_key, value);
+    put(dst, after_value, b"\n")
 }
 
-fn put_axis(dst: &mut [u8], at: usize, x: Axis) -> usize
-    requires { Room dst.old at (axis_word x) }
-    ensures { Puts dst.old at (axis_word x) result dst.new }
+pub fn put_word<W: Word>(dst: &mut [u8], at: usize, key: &[u8], w: W) -> usize
+    requires { Room dst.old at (line key.now (W.word w)) }
+    ensures { Puts dst.old at (line key.now (W.word w)) result dst.new }
 {
-    match x {
-        Axis::Redder => put(dst, at, b"redder"),
-        Axis::Yellower => put(dst, at, b"yellower"),
-        Axis::Greener => put(dst, at, b"greener"),
-        Axis::Bluer => put(dst, at, b"bluer"),
-    }
+    put_line(dst, at, key, w.text())
 }
 
+// A hue says two axes with a bracket, so it is no `Word`: it is put from theirs.
 fn put_axes(dst: &mut [u8], at: usize, name: Axis, bracket: Axis) -> usize
     requires { Room dst.old at (joined (axes_pieces name bracket)) }
     ensures { Puts dst.old at (joined (axes_pieces name bracket)) result dst.new }
 {
     let after_key = put(dst, at, b"hue=");
-    let after_name = put_axis(dst, after_key, name);
+    let after_name = put(dst, after_key, name.text());
     let after_open = put(dst, after_name, b"(");
-    let after_bracket = put_axis(dst, after_open, bracket);
+    let after_bracket = put(dst, after_open, bracket.text());
     put(dst, after_bracket, b")\n")
 }
 
@@ -151,7 +191,7 @@ pub fn hue_len(withheld: bool, x: Hue) -> usize
     }
     match x {
         Hue::Equal => 5,
-        Hue::Towards(name, bracket) => 2 + axis_len(name) + axis_len(bracket),
+        Hue::Towards(name, bracket) => 2 + word_len(name) + word_len(bracket),
     }
 }
 
@@ -161,32 +201,10 @@ pub fn put_hue(dst: &mut [u8], at: usize, withheld: bool, x: Hue) -> usize
     ensures { Puts dst.old at (line (ascii "hue=") (unless_withheld withheld (hue_word x))) result dst.new }
 {
     if withheld {
-        return put(dst, at, b"hue=withheld\n");
+        return put_line(dst, at, b"hue=", b"withheld");
     }
     match x {
-        Hue::Equal => put(dst, at, b"hue=equal\n"),
+        Hue::Equal => put_line(dst, at, b"hue=", b"equal"),
         Hue::Towards(name, bracket) => put_axes(dst, at, name, bracket),
-    }
-}
-
-pub fn verdict_len(x: Verdict) -> usize
-    ensures { (result ≡ length (verdict_word x)) × (result ≤ 4) }
-{
-    match x {
-        Verdict::Near => 4,
-        Verdict::Pass => 4,
-        Verdict::Fail => 4,
-    }
-}
-
-#[tactic(auto, unfolding(text::specs::Put::line))]
-pub fn put_verdict(dst: &mut [u8], at: usize, x: Verdict) -> usize
-    requires { Room dst.old at (line (ascii "verdict=") (verdict_word x)) }
-    ensures { Puts dst.old at (line (ascii "verdict=") (verdict_word x)) result dst.new }
-{
-    match x {
-        Verdict::Near => put(dst, at, b"verdict=near\n"),
-        Verdict::Pass => put(dst, at, b"verdict=pass\n"),
-        Verdict::Fail => put(dst, at, b"verdict=fail\n"),
     }
 }

@@ -1,14 +1,14 @@
 -- docs/SCOPE.md 11: what the program prints for a text. `Printed/Laws.antt` has each way out, `Printed/Cases.antt`
 -- whole texts with what is printed for them. Assumes nothing.
-use Rattle.std.specs.Prelude.{◌≡◌, Bool, cond, List, [], ◌∷◌, ℕ, leb, length}
+use Rattle.std.specs.Prelude.{◌≡◌, Bool, cond, List, [], ◌∷◌, ℕ, leb, length, Ok, Err}
 use Rattle.std.proofs.Common.{sym, ◌∙◌}
+use Rattle.colour.specs.Refusal.{number_of_refusal}
 use Rattle.text.specs.Ascii.{ascii}
 use Rattle.text.specs.Put.{put_at, joined}
 use Rattle.text.specs.Decimal.{whole_text}
 use Rattle.ticket.specs.Ticket.{ticket_of}
 use Rattle.report.specs.Report.{report_text}
-use Rattle.standard.specs.declared.judge.Outcome.{Outcome}
-use Rattle.standard.specs.declared.judge.Outcome.TheVariants.{Refused, Judged}
+use Rattle.standard.specs.Judgement.{Outcome}
 use Rattle.calls.specs.Outcome.{ticket_outcome}
 pub use Rattle.calls.specs.Line.{line_of}
 pub mod Laws
@@ -26,8 +26,8 @@ refusal_line number line = joined (refusal_pieces number line)
 -- ---- what is printed
 
 abbrev pub outcome_text : Outcome → (line : ℕ) → List ℕ
-outcome_text (Refused number) line = refusal_line number line
-outcome_text (Judged j) line = report_text j
+outcome_text (Err e) line = refusal_line (number_of_refusal e) line
+outcome_text (Ok j) line = report_text j
 
 -- THE PROGRAM, its line that of a ticket's answer: from the bytes of standard input to those of standard output
 unfoldable pub printed_text : List ℕ → List ℕ

@@ -1,6 +1,6 @@
 -- What load, judge and ticket hand back, as C takes it: figures as floats, names and the verdict as numbers.
 -- Assumes nothing.
-use Rattle.std.specs.Prelude.{ℕ}
+use Rattle.std.specs.Prelude.{ℕ, Option, Some, None}
 use Rattle.sheet.specs.declared.verdict.Verdict.{Verdict}
 use Rattle.sheet.specs.declared.verdict.Verdict.TheVariants.{Near, Pass, Fail}
 use Rattle.names.specs.declared.Axis.{Axis}
@@ -10,8 +10,7 @@ use Rattle.names.specs.declared.Chroma as Chroma
 use Rattle.names.specs.declared.Hue as Hue
 use Rattle.standard.specs.declared.figures.ReferenceAnswer.{ReferenceAnswer}
 use Rattle.standard.specs.declared.figures.SpecimenAnswer.{SpecimenAnswer}
-use Rattle.standard.specs.declared.figures.Named.{Named}
-use Rattle.standard.specs.declared.figures.Named.TheVariants.{Nothing, Names}
+use Rattle.standard.specs.declared.figures.Names.{Names}
 use Rattle.probe.specs.declared.answers.Reference.{Reference}
 use Rattle.probe.specs.declared.answers.Specimen.{Specimen}
 use Rattle.probe.specs.declared.answers.Words.{Words}
@@ -48,14 +47,14 @@ verdict_number Pass = 2
 verdict_number Fail = 3
 
 -- 0 where nothing is said
-unfoldable pub words_of : Named → Words
-words_of Nothing = record { lightness = 0; chroma = 0; hue = 0; bracket = 0; verdict = 0 }
-words_of (Names lightness chroma hue verdict) = record {
-  lightness = lightness_number lightness;
-  chroma = chroma_number chroma;
-  hue = hue_number hue;
-  bracket = bracket_number hue;
-  verdict = verdict_number verdict;
+unfoldable pub words_of : Option Names → Words
+words_of None = record { lightness = 0; chroma = 0; hue = 0; bracket = 0; verdict = 0 }
+words_of (Some n) = record {
+  lightness = lightness_number n.lightness;
+  chroma = chroma_number n.chroma;
+  hue = hue_number n.hue;
+  bracket = bracket_number n.hue;
+  verdict = verdict_number n.verdict;
 }
 
 -- ---- the answers

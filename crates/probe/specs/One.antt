@@ -5,7 +5,7 @@ use Rattle.std.specs.Prelude.{◌≡◌, List, ℕ, Float, ℤ}
 use Rattle.std.proofs.Common.{sym, ap, ◌∙◌}
 use Rattle.reading.specs.Reading.{float_units, decimal_units}
 use Rattle.colour.specs.White.{white_numbered}
-use Rattle.colour.specs.declared.placed.Reading.TheVariants.{Xyz, Lab}
+use Rattle.colour.specs.declared.placed.Values.TheVariants.{Xyz, Lab}
 use Rattle.probe.specs.Ground.{Answer, answer, quantity_of, decimal_of, units_answer, numbered_answer}
 
 abbrev pub AnswersOne : Answer → Type 0

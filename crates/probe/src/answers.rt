@@ -1,7 +1,7 @@
 // What load, judge and ticket hand back, as C takes it: figures as doubles, names and the verdict as numbers.
 ghost use Rattle.std.specs.Prelude.{◌≡◌};
-ghost use Rattle.colour.specs.declared.placed.Reading.TheVariants.{Xyz, Lab};
-ghost use Rattle.standard.specs.Acceptance.{settings_of};
+ghost use Rattle.colour.specs.declared.placed.Values.TheVariants.{Xyz, Lab};
+ghost use Rattle.standard.specs.Acceptance.{settings_by, settings_of};
 ghost use Rattle.standard.specs.Figures.{reference_answer, specimen_answer};
 ghost use Rattle.ticket.specs.Ticket.{ticket_of};
 ghost use Rattle.station.specs.Record.{decode};
@@ -14,7 +14,8 @@ use calls::{judge_figures, load_figures, ticket_figures};
 use colour::placed::Reading;
 use names::{Axis, Chroma, Hue, Lightness};
 use sheet::verdict::Verdict;
-use standard::figures::{Named, SpecimenAnswer};
+use standard::accept::LoadNumbers;
+use standard::figures::{Names, SpecimenAnswer};
 
 // A load's answer: its refusal number or 0, then the reference's figures.
 #[repr(C)]
@@ -57,6 +58,7 @@ pub struct Specimen {
     pub words: Words,
 }
 
+// By hand: `From` for a number would have to stand in `names`, and the product numbers no name.
 fn lightness_number(x: Lightness) -> u32
     ensures { result ≡ lightness_number x }
 {
@@ -118,27 +120,28 @@ fn verdict_number(x: Verdict) -> u32
 }
 
 #[tactic(auto, unfolding(crate::specs::Answers::words_of))]
-fn words_of(n: Named) -> Words
+fn words_of(n: Option<Names>) -> Words
     ensures { result ≡ words_of n }
 {
     match n {
-        Named::Nothing => Words {
+        None => Words {
             lightness: 0,
             chroma: 0,
             hue: 0,
             bracket: 0,
             verdict: 0,
         },
-        Named::Names(lightness, chroma, hue, verdict) => Words {
-            lightness: lightness_number(lightness),
-            chroma: chroma_number(chroma),
-            hue: hue_number(hue),
-            bracket: bracket_number(hue),
-            verdict: verdict_number(verdict),
+        Some(names) => Words {
+            lightness: lightness_number(names.lightness),
+            chroma: chroma_number(names.chroma),
+            hue: hue_number(names.hue),
+            bracket: bracket_number(names.hue),
+            verdict: verdict_number(names.verdict),
         },
     }
 }
 
+#[tactic(auto, unfolding(crate::specs::Answers::specimen_of))]
 fn specimen_of(x: SpecimenAnswer) -> Specimen
     ensures { result ≡ specimen_of x }
 {
@@ -158,10 +161,11 @@ fn specimen_of(x: SpecimenAnswer) -> Specimen
     }
 }
 
-fn load_answer(formula: u32, white: u32, l: u32, c: u32, tolerance: u32, r: Reading) -> Reference
-    ensures { result ≡ reference_of (reference_answer (loaded (settings_of formula white l c tolerance) r)) }
+#[tactic(auto, unfolding(crate::specs::Answers::reference_of))]
+fn load_answer(n: LoadNumbers, r: Reading) -> Reference
+    ensures { result ≡ reference_of (reference_answer (loaded (settings_by n) r)) }
 {
-    let x = load_figures(formula, white, l, c, tolerance, r);
+    let x = load_figures(n, r);
     Reference {
         number: x.number,
         lightness: x.figures.L,
@@ -193,7 +197,14 @@ pub extern "C" fn probe_load_xyz(
 ) -> Reference
     ensures { result ≡ reference_of (reference_answer (loaded (settings_of formula white l c tolerance) (Xyz x y z))) }
 {
-    load_answer(formula, white, l, c, tolerance, Reading::Xyz(x, y, z))
+    let n = LoadNumbers {
+        formula,
+        white,
+        l,
+        c,
+        tolerance,
+    };
+    load_answer(n, Reading::Xyz(x, y, z))
 }
 
 #[unsafe(no_mangle)]
@@ -210,14 +221,14 @@ pub extern "C" fn probe_load_lab(
     ensures { result ≡ reference_of (reference_answer (loaded (settings_of formula white l c tolerance)
         (Lab lightness a b))) }
 {
-    load_answer(
+    let n = LoadNumbers {
         formula,
         white,
         l,
         c,
         tolerance,
-        Reading::Lab(lightness, a, b),
-    )
+    };
+    load_answer(n, Reading::Lab(lightness, a, b))
 }
 
 #[unsafe(no_mangle)]

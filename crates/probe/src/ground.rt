@@ -3,18 +3,18 @@ ghost use Rattle.std.specs.Prelude.{◌≡◌};
 ghost use Rattle.rounding.specs.Root.{root_of};
 ghost use Rattle.reading.specs.Reading.{float_units, decimal_units};
 ghost use Rattle.reading.specs.Grid.{value_of};
-ghost use Rattle.colour.specs.declared.placed.Reading.TheVariants.{Xyz, Lab};
+ghost use Rattle.colour.specs.declared.placed.Values.TheVariants.{Xyz, Lab};
 ghost use Rattle.colour.specs.White.{white_numbered};
 ghost use Rattle.probe.specs.Ground.{quantity_of, decimal_of, answer, units_answer, colour_stored, placed_answer};
 ghost use Rattle.probe.specs.Ground.{numbered_answer};
 
 use colour::conversion::GridColour;
-use colour::placed::{Placed, Reading, place_reading};
-use colour::refusal;
-use colour::white::{Numbered, White};
+use colour::placed::{Placed, Reading, place};
+use colour::refusal::Refusal;
+use colour::white::White;
 use reading::decimal::Decimal;
 use reading::grid::Grid;
-use reading::quantity::{Quantity, Units};
+use reading::quantity::{Quantity, ReadError, Units};
 
 #[unsafe(no_mangle)]
 pub extern "C" fn probe_square_root(x: u64) -> u64
@@ -45,14 +45,14 @@ fn store_units(u: Units, out: &mut [i64]) -> u32
     ensures { answer result out.new ≡ units_answer u out.old }
 {
     match u {
-        Units::Of(z) => {
-            if 0 < out.len() {
-                out[0] = z;
+        Ok(z) => {
+            if let Some(first) = out.first_mut() {
+                *first = z;
             }
             0
         }
-        Units::NotFinite => refusal::NOT_A_NUMBER,
-        Units::OutOfRange => refusal::OUT_OF_RANGE,
+        Err(ReadError::NotFinite) => u32::from(Refusal::NotANumber),
+        Err(ReadError::OutOfRange) => u32::from(Refusal::OutOfRange),
     }
 }
 
@@ -92,13 +92,10 @@ pub extern "C" fn probe_value(units: i64) -> f64
 fn store_colour(c: GridColour, out: &mut [i64])
     ensures { out.new ≡ colour_stored c out.old }
 {
-    let l = c.L.0;
-    let a = c.a.0;
-    let b = c.b.0;
     if out.len() == 3 {
-        out[0] = l;
-        out[1] = a;
-        out[2] = b;
+        out[0] = c.L.0;
+        out[1] = c.a.0;
+        out[2] = c.b.0;
     }
 }
 
@@ -107,11 +104,11 @@ fn store_place(p: Placed, out: &mut [i64]) -> u32
     ensures { answer result out.new ≡ placed_answer p out.old }
 {
     match p {
-        Placed::At(c) => {
+        Ok(c) => {
             store_colour(c, out);
             0
         }
-        Placed::Refused(n) => n,
+        Err(e) => u32::from(e),
     }
 }
 
@@ -119,9 +116,9 @@ fn store_place(p: Placed, out: &mut [i64]) -> u32
 fn place_numbered(white: u32, r: Reading, out: &mut [i64]) -> u32
     ensures { answer result out.new ≡ numbered_answer (white_numbered white) r out.old }
 {
-    match White::numbered(white) {
-        Numbered::Is(w) => store_place(place_reading(r, w), out),
-        Numbered::Unknown => refusal::WHITE,
+    match White::try_from(white) {
+        Ok(w) => store_place(place(r, w), out),
+        Err(refusal) => u32::from(refusal),
     }
 }
 

@@ -1,14 +1,14 @@
 -- Roots one binary digit at a time, over the exponent e, as on paper. The digits of x are marked off from the right in
 -- groups of e, and `left` groups are still to be brought down. What is known between two digits (`Found`); the first
--- digit (`found_first`); one digit more (`found-zero`, `found_one`); the end (`found_all`). Assumes nothing.
+-- digit (`found_first`); one digit more (`found-zero`, `found_one`). Assumes nothing.
 use mathlib.Core.Path.{◌≡◌, refl, sym, ap, ◌∙◌}
 use Prim.Native.Nat.{ℕ, suc, ◌+◌, ◌-◌, ◌*◌, ◌/◌, ◌%◌, ◌^◌, ◌≤◌, ◌<◌}
-use native.Mathlib.Nat.{pow-zero, mul-zero, mul-one, mul-suc, mul_assoc, mul-le-mul_left, mul-div-mul_right, div-one}
+use native.Mathlib.Nat.{mul-one, mul-suc, mul_assoc, mul-le-mul_left, mul-div-mul_right}
 use native.Mathlib.Nat.{div-add-mod', add-mul-mod_self_right, mod-lt, mul-div-le, lt-mul-div-succ, le_trans}
-use native.Mathlib.Nat.{mul-div_right, mul-lt-mul_of_pos_left, lt_of_lt_of_le}
+use native.Mathlib.Nat.{mul-lt-mul_of_pos_left, lt_of_lt_of_le}
 use native.Mathlib.Omega.{arith}
 use lib.Count.{count_leading_zeros, leading_top}
-use lib.Pow.{pow-add, pow_mono, pow_pos, shl_exact, shr_lt, shr_le, shr-shr, split, field}
+use lib.Pow.{pow-add, pow_mono, pow_pos, shl_exact, shr_lt, shr-shr, split, field}
 use Rattle.rounding.specs.Root.{root_of, IsRoot, root_law, mul-pow, one_pow}
 use Rattle.rounding.proofs.Theorems.Root.Laws.{root-lt, root_unique, pow-mul}
 use Rattle.rounding.specs.Fraction.{le-div}
@@ -106,36 +106,36 @@ module _ {places : ℕ} (e x less : ℕ) (is : places ≡ less + e) (within : pl
       up : 64 - places + e ≡ 64 - less
       up = omega (arith, is)
 
--- ---- a turn, as the code makes it
+-- ---- a turn, as the code makes it: of `turns` groups `turn` have been brought down before it
 
-module _ {z e x left root rest down : ℕ}
-    (some : 0 < e) (fits : x < 2 ^ 64) (more : 0 < left) (h : Found z e x left root rest down) where
+module _ {z e x turns turn root rest down : ℕ}
+    (some : 0 < e) (fits : x < 2 ^ 64) (more : turn < turns) (h : Found z e x (turns - turn) root rest down) where
   abbrev less : ℕ
-  less = e * (left - 1)
+  less = e * (turns - (turn + 1))
 
   abbrev lead : ℕ
   lead = x / 2 ^ less
 
-  one_group : e * left ≡ less + e
-  one_group = ap (λ (n : ℕ). e * n) one_more ∙ mul-suc e (left - 1) ∙ omega arith
+  one_group : e * (turns - turn) ≡ less + e
+  one_group = ap (λ (n : ℕ). e * n) one_more ∙ mul-suc e (turns - (turn + 1)) ∙ omega arith
     where
-      one_more : left ≡ suc (left - 1)
+      one_more : turns - turn ≡ suc (turns - (turn + 1))
       one_more = omega arith
 
   rooted : Rooted e (lead / 2 ^ e) h.digits rest
   rooted = rw (lead_splits e x less one_group h.within) at h.leading
 
-  before_lt : x / 2 ^ (e * left) < 2 ^ (64 - e)
-  before_lt = lt_of_lt_of_le (shr_lt (64 - e * left) (e * left) (rw word fits)) (pow_mono (omega (arith, one_group)))
+  before_lt : x / 2 ^ (e * (turns - turn)) < 2 ^ (64 - e)
+  before_lt = lt_of_lt_of_le (shr_lt (64 - e * (turns - turn)) (e * (turns - turn)) (rw word fits)) (pow_mono (omega (arith, one_group)))
     where
-      word : 64 - e * left + e * left ≡ 64
+      word : 64 - e * (turns - turn) + e * (turns - turn) ≡ 64
       word = omega (arith, h.within)
 
   -- so many places are enough for the digits found so far
   digits_lt : (most : ℕ) → 64 ≤ e * most + e → h.digits < 2 ^ most
   digits_lt most enough =
       rw h.leading.root
-      (root-lt e (x / 2 ^ (e * left)) (2 ^ most) some
+      (root-lt e (x / 2 ^ (e * (turns - turn))) (2 ^ most) some
       (rw pow-mul (lt_of_lt_of_le before_lt (pow_mono (omega arith)))))
 
   pub held-lt : (most : ℕ) → 64 ≤ e * most + e → 0 < z → root < z * 2 ^ most
@@ -154,11 +154,8 @@ module _ {z e x left root rest down : ℕ}
       wide : 64 - e + e ≤ 64
       wide = omega (arith, h.within, one_group)
 
-  pub there_fits : down_there < 2 ^ 64
-  there_fits = rw there_is (omega (arith, brought lead some rooted, shr_le x less))
-
-  next : {r s : ℕ} (d : ℕ) → r ≡ z * d → Rooted e lead d s → Found z e x (left - 1) r s (down * 2 ^ e % 2 ^ 64)
-  next d held leading =
+  found_next : {r s : ℕ} (d : ℕ) → r ≡ z * d → Rooted e lead d s → Found z e x (turns - (turn + 1)) r s (down * 2 ^ e % 2 ^ 64)
+  found_next d held leading =
       record {
         digits = d;
         held = held;
@@ -168,18 +165,18 @@ module _ {z e x left root rest down : ℕ}
       }
 
   module _ (m : ℕ) (takes : (2 * h.digits + 1) ^ e ≡ (2 * h.digits) ^ e + m) where
-    pub found-zero : down_there < m → Found z e x (left - 1) (2 * root) down_there (down * 2 ^ e % 2 ^ 64)
+    pub found-zero : down_there < m → Found z e x (turns - (turn + 1)) (2 * root) down_there (down * 2 ^ e % 2 ^ 64)
     found-zero short =
         rw there_is
-        (next (2 * h.digits) (omega (arith, h.held)) (digit-zero lead some rooted m takes (rw there_is at short)))
+        (found_next (2 * h.digits) (omega (arith, h.held)) (digit-zero lead some rooted m takes (rw there_is at short)))
 
     pub found_one :
-        m ≤ down_there → Found z e x (left - 1) (2 * root + z) (down_there - m) (down * 2 ^ e % 2 ^ 64)
+        m ≤ down_there → Found z e x (turns - (turn + 1)) (2 * root + z) (down_there - m) (down * 2 ^ e % 2 ^ 64)
     found_one enough =
         rw there_is
-        (next (2 * h.digits + 1) (omega (arith, h.held)) (digit_one lead some rooted m takes (rw there_is at enough)))
+        (found_next (2 * h.digits + 1) (omega (arith, h.held)) (digit_one lead some rooted m takes (rw there_is at enough)))
 
--- ---- the first digit, and the end
+-- ---- the first digit
 
 -- the first group of x, which is not 0, has `left` groups behind it
 pub record First (e x left : ℕ) : Type 0 where
@@ -190,9 +187,6 @@ pub record First (e x left : ℕ) : Type 0 where
 module _ {x : ℕ} (some : 0 < x) (fits : x < 2 ^ 64) where
   top : (j : ℕ) × (count_leading_zeros 64 x + suc j ≡ 64) × (2 ^ j ≤ x) × (x < 2 ^ suc j)
   top = leading_top 64 x some fits
-
-  pub zeros-le : count_leading_zeros 64 x ≤ 63
-  zeros-le = omega (arith, top.1)
 
   -- the width of x says where it stands
   pub first_of_width : (e left : ℕ) → 0 < e → left ≡ (63 - count_leading_zeros 64 x) / e → First e x left
@@ -234,14 +228,3 @@ module _ {e x left : ℕ} (some : 0 < e) (h : First e x left) where
     where
       one : IsRoot e (x / 2 ^ (e * left)) 1
       one = record { low = rw one_pow group_some; high = shr_lt e (e * left) h.high }
-
--- with no group left all of x is the leading part
-pub found_all : {z e x left root rest down : ℕ} →
-    Found z e x left root rest down → left ≤ 0 → 0 < z → root / z ≡ root_of e x
-found_all {z} {e} {x} {left} h none some = rw (h.held, mul-div_right h.digits some) (h.leading.root ∙ whole)
-  where
-    ended : left ≡ 0
-    ended = omega arith
-
-    whole : root_of e (x / 2 ^ (e * left)) ≡ root_of e x
-    whole = rw (ended, mul-zero, pow-zero, div-one)

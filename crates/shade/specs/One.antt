@@ -1,8 +1,8 @@
 -- Any two outcomes that a C entry's contract admits are equal: the number that it answers, or the struct that it hands
 -- back, and the content of the slice that it may write. Assumes nothing.
 use Rattle.std.specs.Prelude.{List, ℕ, Float}
-use Rattle.colour.specs.declared.placed.Reading.TheVariants.{Xyz, Lab}
-use Rattle.cones.specs.declared.Kind.TheVariants as K
+use Rattle.colour.specs.declared.placed.Values.TheVariants.{Xyz, Lab}
+use Rattle.colour.specs.declared.placed.Space.TheVariants as Space
 use Rattle.delivery.specs.Sorted.{Sorts}
 use Rattle.delivery.proofs.Theorems.Sorted.Laws.{AdmitsOne as SortAdmitsOne, sorts_one}
 use Rattle.calls.specs.Calls.{AdmitsOne, gives_one, load_call, judge_call, ticket_call}
@@ -35,9 +35,9 @@ ticket_one text room column = gives_one _
 
 module _ (white l c : ℕ) where
   -- of `shade_sort_xyz`
-  pub sort_xyz_one : (x y z de : List Float) → SortAdmitsOne (Sorts K.Xyz white l c x y z de)
-  sort_xyz_one x y z de = sorts_one K.Xyz white l c x y z de
+  pub sort_xyz_one : (x y z de : List Float) → SortAdmitsOne (Sorts Space.Xyz white l c x y z de)
+  sort_xyz_one x y z de = sorts_one Space.Xyz white l c x y z de
 
   -- of `shade_sort_lab`
-  pub sort_lab_one : (lightness a b de : List Float) → SortAdmitsOne (Sorts K.Lab white l c lightness a b de)
-  sort_lab_one lightness a b de = sorts_one K.Lab white l c lightness a b de
+  pub sort_lab_one : (lightness a b de : List Float) → SortAdmitsOne (Sorts Space.Lab white l c lightness a b de)
+  sort_lab_one lightness a b de = sorts_one Space.Lab white l c lightness a b de

@@ -1,18 +1,20 @@
-// The C entries of libshade.a, one call each. include/shade.h says the same for C.
+// The C entries of libshade.a, one call each. include/shade.h says the same for C. A load, a judgement and a sort stand
+// twice: C has no type that is either X, Y, Z or L*, a*, b*.
 #![tactic(auto)]
 
 ghost use Rattle.std.specs.Prelude.{◌≡◌};
 ghost use Rattle.shade.specs.Version.{version};
-ghost use Rattle.colour.specs.declared.placed.Reading.TheVariants.{Xyz, Lab};
+ghost use Rattle.colour.specs.declared.placed.Values.TheVariants.{Xyz, Lab};
 ghost use Rattle.calls.specs.Calls.{Gives, load_call, judge_call, ticket_call};
 ghost use Rattle.calls.specs.Runs.{AsFresh};
-ghost use Rattle.cones.specs.declared.Kind.TheVariants as K;
+ghost use Rattle.colour.specs.declared.placed.Space.TheVariants as Space;
 ghost use Rattle.delivery.specs.Sorted.{Sorts};
 
 use calls::{judge_call, load_call, ticket_call};
-use colour::placed::Reading;
-use cones::Kind;
+use colour::placed::{Reading, Space};
+use colour::refusal::number_of;
 use delivery::{Sorted, sort};
+use standard::accept::LoadNumbers;
 
 #[unsafe(no_mangle)]
 pub extern "C" fn shade_load_xyz(
@@ -28,15 +30,14 @@ pub extern "C" fn shade_load_xyz(
 ) -> u32
     ensures { Gives (load_call station.old formula white l c tolerance (Xyz x y z)) result station.new }
 {
-    load_call(
-        station,
+    let n = LoadNumbers {
         formula,
         white,
         l,
         c,
         tolerance,
-        Reading::Xyz(x, y, z),
-    )
+    };
+    number_of(load_call(station, n, Reading::Xyz(x, y, z)))
 }
 
 #[unsafe(no_mangle)]
@@ -54,15 +55,14 @@ pub extern "C" fn shade_load_lab(
     ensures { Gives (load_call station.old formula white l c tolerance (Lab lightness a b)) result
         station.new }
 {
-    load_call(
-        station,
+    let n = LoadNumbers {
         formula,
         white,
         l,
         c,
         tolerance,
-        Reading::Lab(lightness, a, b),
-    )
+    };
+    number_of(load_call(station, n, Reading::Lab(lightness, a, b)))
 }
 
 #[unsafe(no_mangle)]
@@ -77,7 +77,7 @@ pub extern "C" fn shade_judge_xyz(
     ensures gives { Gives (judge_call station.now (Xyz x y z) room.old column) result room.new }
     ensures run { AsFresh station.now (Xyz x y z) room.old column result room.new }
 {
-    judge_call(station, Reading::Xyz(x, y, z), room, column)
+    number_of(judge_call(station, Reading::Xyz(x, y, z), room, column))
 }
 
 #[unsafe(no_mangle)]
@@ -93,14 +93,14 @@ pub extern "C" fn shade_judge_lab(
         room.new }
     ensures run { AsFresh station.now (Lab lightness a b) room.old column result room.new }
 {
-    judge_call(station, Reading::Lab(lightness, a, b), room, column)
+    number_of(judge_call(station, Reading::Lab(lightness, a, b), room, column))
 }
 
 #[unsafe(no_mangle)]
 pub extern "C" fn shade_ticket(text: &[u8], room: &mut [u8], column: usize) -> u32
     ensures { Gives (ticket_call text.now room.old column) result room.new }
 {
-    ticket_call(text, room, column)
+    number_of(ticket_call(text, room, column))
 }
 
 #[unsafe(no_mangle)]
@@ -113,10 +113,10 @@ pub extern "C" fn shade_sort_xyz(
     z: &[f64],
     de: &mut [f64],
 ) -> Sorted
-    ensures { Sorts K.Xyz white l c x.now y.now z.now de.old result
+    ensures { Sorts Space.Xyz white l c x.now y.now z.now de.old result
         de.new }
 {
-    sort(Kind::Xyz, white, l, c, x, y, z, de)
+    sort(Space::Xyz, white, l, c, x, y, z, de)
 }
 
 #[unsafe(no_mangle)]
@@ -129,10 +129,10 @@ pub extern "C" fn shade_sort_lab(
     b: &[f64],
     de: &mut [f64],
 ) -> Sorted
-    ensures { Sorts K.Lab white l c lightness.now a.now b.now de.old result
+    ensures { Sorts Space.Lab white l c lightness.now a.now b.now de.old result
         de.new }
 {
-    sort(Kind::Lab, white, l, c, lightness, a, b, de)
+    sort(Space::Lab, white, l, c, lightness, a, b, de)
 }
 
 const MAJOR: u32 = 1;

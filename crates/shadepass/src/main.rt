@@ -10,6 +10,7 @@ use std::io::Read;
 
 // Reads until `buf` is full, the input ends or a read fails, and answers how many bytes that put at the start of `buf`:
 // the next ones of the input, none left out.
+// By hand: `read_to_end` fills a Vec, and `read_exact` and `io::copy` lose the count of what came before a failed read.
 fn read_start<R: Read>(reader: &mut R, buf: &mut [u8]) -> usize
     ensures in_bounds { result ≤ length buf.new }
     ensures bytes { Consumes (R.remaining reader.old) (R.remaining reader.new) (take result buf.new) }

@@ -1,9 +1,7 @@
 -- docs/SCOPE.md 3.3, 8.1: the formulas' numbers, and the ranges of l, c and the tolerance. Assumes nothing.
-use Rattle.std.specs.Prelude.{Bool, cond, ◌&&◌, ℕ, ◌≤◌, leb, eqb}
+use Rattle.std.specs.Prelude.{Bool, cond, ◌&&◌, ℕ, ◌≤◌, leb, eqb, Option, Some, None}
 use Rattle.sheet.specs.declared.formula.Formula.{Formula}
 use Rattle.sheet.specs.declared.formula.Formula.TheVariants.{CIELAB, CIE94, CMC}
-use Rattle.sheet.specs.declared.formula.NumberedFormula.{NumberedFormula}
-use Rattle.sheet.specs.declared.formula.NumberedFormula.TheVariants.{Is, Unknown}
 
 -- ---- formulas by number
 
@@ -14,8 +12,8 @@ number_of_formula CIE94 = 2
 number_of_formula CMC = 3
 
 -- the formula of a number, if there is one
-unfoldable pub formula_numbered : ℕ → NumberedFormula
-formula_numbered n = cond (eqb n 1) (Is CIELAB) (cond (eqb n 2) (Is CIE94) (cond (eqb n 3) (Is CMC) Unknown))
+unfoldable pub formula_numbered : ℕ → Option Formula
+formula_numbered n = cond (eqb n 1) (Some CIELAB) (cond (eqb n 2) (Some CIE94) (cond (eqb n 3) (Some CMC) None))
 
 -- ---- ranges
 

@@ -1,34 +1,19 @@
 // The three formulas.
-ghost use Rattle.std.specs.Prelude.{◌≡◌};
+ghost use Rattle.std.specs.Prelude.{◌≡◌, ok_or};
+ghost use Rattle.colour.specs.declared.refusal.Refusal.TheVariants.{Formula as Refused};
 ghost use Rattle.sheet.specs.Settings.{number_of_formula, formula_numbered};
 ghost use Rattle.sheet.specs.Sheet.{factor_under};
 
-#[derive(Clone, Copy)]
+use colour::refusal::Refusal;
+
+#[derive(Clone, Copy, Debug, PartialEq, Eq)]
 pub enum Formula {
     CIELAB,
     CIE94,
     CMC,
 }
 
-// What a formula's number names.
-#[derive(Clone, Copy)]
-pub enum NumberedFormula {
-    Is(Formula),
-    Unknown,
-}
-
 impl Formula {
-    // By which a load names the formula.
-    pub fn number(self) -> u32
-        ensures { result ≡ number_of_formula self }
-    {
-        match self {
-            Formula::CIELAB => 1,
-            Formula::CIE94 => 2,
-            Formula::CMC => 3,
-        }
-    }
-
     // l or c as the formula takes it.
     pub fn factor(self, l: u64) -> u64
         ensures { result ≡ factor_under self l }
@@ -39,17 +24,34 @@ impl Formula {
             Formula::CMC => l,
         }
     }
+}
 
-    // The formula of a number.
+// By which a load names the formula.
+impl From<Formula> for u32 {
+    ghost from_gives = { λ f n. n ≡ number_of_formula f };
+
+    fn from(f: Formula) -> u32 {
+        match f {
+            Formula::CIELAB => 1,
+            Formula::CIE94 => 2,
+            Formula::CMC => 3,
+        }
+    }
+}
+
+// The formula of a number.
+impl TryFrom<u32> for Formula {
+    type Error = Refusal;
+
+    ghost try_from_gives = { λ n r. r ≡ ok_or (formula_numbered n) Refused };
+
     #[tactic(auto, unfolding(crate::specs::Settings::formula_numbered))]
-    pub fn numbered(n: u32) -> NumberedFormula
-        ensures { result ≡ formula_numbered n }
-    {
+    fn try_from(n: u32) -> Result<Formula, Refusal> {
         match n {
-            1 => NumberedFormula::Is(Formula::CIELAB),
-            2 => NumberedFormula::Is(Formula::CIE94),
-            3 => NumberedFormula::Is(Formula::CMC),
-            _ => NumberedFormula::Unknown,
+            1 => Ok(Formula::CIELAB),
+            2 => Ok(Formula::CIE94),
+            3 => Ok(Formula::CMC),
+            _ => Err(Refusal::Formula),
         }
     }
 }

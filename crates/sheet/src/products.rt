@@ -1,5 +1,5 @@
-// Two products, added or one less the other, and two squares. Bounds are those of the grid: |a|, |b| are at most 2^28,
-// and the sheet's constants below 2^27.
+// Two products, added or one less the other, and two squares, as the sheet's lines have them. Bounds are those of the
+// grid: |a|, |b| are at most 2^28, and the sheet's constants below 2^27.
 ghost use Rattle.std.specs.Prelude.{◌≡◌, ◌+◌, ◌^◌, ◌+ℤ◌, ◌-ℤ◌, ◌*ℤ◌};
 ghost use Rattle.rounding.specs.Signed.{square};
 ghost use Rattle.sheet.specs.Ranges.{Both, Four};

@@ -8,17 +8,17 @@ use crate::verdict::{Verdict, compare};
 use reading::grid::Grid;
 
 // Thousandths of a grid unit: a difference in whole units and a tolerance in whole thousandths are both exact in these.
-#[derive(Clone, Copy)]
+#[derive(Clone, Copy, Debug, PartialEq, Eq)]
 pub struct Cielab(pub u64);
 
-#[derive(Clone, Copy)]
+#[derive(Clone, Copy, Debug, PartialEq, Eq)]
 pub struct Cie94(pub u64);
 
-#[derive(Clone, Copy)]
+#[derive(Clone, Copy, Debug, PartialEq, Eq)]
 pub struct Cmc(pub u64);
 
 // On one of the three scales, where the formula is known only when it is met.
-#[derive(Clone, Copy)]
+#[derive(Clone, Copy, Debug, PartialEq, Eq)]
 pub enum Scaled {
     Cielab(Cielab),
     Cie94(Cie94),
@@ -57,22 +57,11 @@ impl Scaled {
     pub fn verdict(self, tolerance: Scaled) -> Verdict
         ensures { result ≡ verdict_on 20 tolerance self }
     {
-        match self {
-            Scaled::Cielab(de) => match tolerance {
-                Scaled::Cielab(t) => compare(t.0, de.0),
-                Scaled::Cie94(_) => Verdict::Fail,
-                Scaled::Cmc(_) => Verdict::Fail,
-            },
-            Scaled::Cie94(de) => match tolerance {
-                Scaled::Cielab(_) => Verdict::Fail,
-                Scaled::Cie94(t) => compare(t.0, de.0),
-                Scaled::Cmc(_) => Verdict::Fail,
-            },
-            Scaled::Cmc(de) => match tolerance {
-                Scaled::Cielab(_) => Verdict::Fail,
-                Scaled::Cie94(_) => Verdict::Fail,
-                Scaled::Cmc(t) => compare(t.0, de.0),
-            },
+        match (self, tolerance) {
+            (Scaled::Cielab(de), Scaled::Cielab(t)) => compare(t.0, de.0),
+            (Scaled::Cie94(de), Scaled::Cie94(t)) => compare(t.0, de.0),
+            (Scaled::Cmc(de), Scaled::Cmc(t)) => compare(t.0, de.0),
+            _ => Verdict::Fail,
         }
     }
 }

@@ -1,6 +1,6 @@
 // What differences are worked out and judged by, and the ranges of those numbers.
 ghost use Rattle.std.specs.Prelude.{◌≡◌};
-ghost use Rattle.sheet.specs.Settings.{within, is_factor, is_tolerance};
+ghost use Rattle.sheet.specs.Settings.{is_factor, is_tolerance};
 
 use crate::formula::Formula;
 use colour::white::White;
@@ -15,25 +15,18 @@ pub struct Settings {
     pub tolerance: u64,
 }
 
-fn is_within(low: u64, high: u64, n: u64) -> bool
-    ensures { result ≡ within low high n }
-{
-    if n < low {
-        return false;
-    }
-    n <= high
-}
-
 // Whether l, or c, lies in its range.
+#[tactic(auto, unfolding(crate::specs::Settings::within))]
 pub fn is_factor(l: u64) -> bool
     ensures { result ≡ is_factor l }
 {
-    is_within(500, 10000, l)
+    (500..=10000).contains(&l)
 }
 
-// Whether a tolerance lies in its range.
+// Whether a tolerance lies in its range, which has a lower end of its own.
+#[tactic(auto, unfolding(crate::specs::Settings::within))]
 pub fn is_tolerance(t: u64) -> bool
     ensures { result ≡ is_tolerance t }
 {
-    is_within(100, 10000, t)
+    (100..=10000).contains(&t)
 }

@@ -1,33 +1,26 @@
 // SCOPE 6.4: the verdict.
 ghost use Rattle.std.specs.Prelude.{◌≡◌};
-ghost use Rattle.rounding.specs.Signed.{∣◌∣};
-ghost use Rattle.sheet.specs.Sheet.{change, compared};
+ghost use Rattle.sheet.specs.Sheet.{compared};
 
 use reading::grid::Grid;
 
-#[derive(Clone, Copy)]
+#[derive(Clone, Copy, Debug, PartialEq, Eq)]
 pub enum Verdict {
     Near,
     Pass,
     Fail,
 }
 
-fn apart(x: u64, y: u64) -> u64
-    ensures { result ≡ ∣ change x y ∣ }
-{
-    if x < y { y - x } else { x - y }
-}
-
 // 0.002 on every scale, in thousandths of a grid unit.
 const NEAR: u64 = 2 * Grid::UNITS_IN_ONE;
 
+#[tactic(auto, unfolding(crate::specs::Sheet::compared))]
 pub(crate) fn compare(tolerance: u64, de: u64) -> Verdict
     ensures { result ≡ compared 20 tolerance de }
 {
-    if apart(tolerance, de) <= NEAR {
-        return Verdict::Near;
-    }
-    if de < tolerance {
+    if tolerance.abs_diff(de) <= NEAR {
+        Verdict::Near
+    } else if de < tolerance {
         Verdict::Pass
     } else {
         Verdict::Fail

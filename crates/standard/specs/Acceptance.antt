@@ -1,46 +1,46 @@
 -- docs/SCOPE.md 1.2, 8.2: what a load takes, and what it is refused for. What it accepts is a standard.
 -- Assumes nothing.
-use Rattle.std.specs.Prelude.{◌≡◌, Bool, true, false, not, cond, List, [], ◌∷◌, ℕ, eqb}
+use Rattle.std.specs.Prelude.{◌≡◌, Bool, true, false, not, cond, List, [], ◌∷◌, ℕ, Result, Ok, Err, Option, Some, None}
+use Rattle.colour.specs.Refusal.{refusal_of, refusal_numbered, refused_by}
 use Rattle.colour.specs.Conversion.Ranges.{OnGrid}
-use Rattle.colour.specs.Placed.{refusal_of}
 use Rattle.colour.specs.White.{white_numbered}
 use Rattle.colour.specs.declared.conversion.GridColour.{GridColour}
-use Rattle.colour.specs.declared.placed.Placed.{Placed}
-use Rattle.colour.specs.declared.placed.Placed.TheVariants as P
-use Rattle.colour.specs.declared.white.Numbered.{Numbered}
-use Rattle.colour.specs.declared.white.Numbered.TheVariants as W
+use Rattle.colour.specs.Placed.{Placed}
+use Rattle.colour.specs.declared.white.White.{White}
 use Rattle.sheet.specs.Settings.{formula_numbered, is_factor, is_tolerance, Factor, Tolerance}
-use Rattle.sheet.specs.declared.formula.NumberedFormula.{NumberedFormula}
-use Rattle.sheet.specs.declared.formula.NumberedFormula.TheVariants as F
+use Rattle.sheet.specs.declared.formula.Formula.{Formula}
 use Rattle.sheet.specs.declared.settings.Settings.{Settings}
+use Rattle.standard.specs.declared.accept.LoadNumbers.{LoadNumbers}
 use Rattle.standard.specs.declared.accept.Standard.{Standard}
-use Rattle.standard.specs.declared.accept.SettingsOf.{SettingsOf}
-use Rattle.standard.specs.declared.accept.SettingsOf.TheVariants as S
-use Rattle.standard.specs.declared.accept.Acceptance.{Acceptance}
-use Rattle.standard.specs.declared.accept.Acceptance.TheVariants.{Refused, Accepted}
+use Rattle.colour.specs.declared.refusal.Refusal.{Refusal}
+use Rattle.colour.specs.declared.refusal.Refusal.TheVariants as Why
 use Rattle.standard.specs.Refusals.{Place, Fault, fault, refusal, at_formula, at_white, at_l, at_c, at_tolerance}
 use Rattle.standard.specs.Refusals.{at_reference}
 
--- ---- settings by the numbers of a load: 1, then 2, where a number names nothing
+-- ---- settings by the numbers of a load: 1, then 2, where a number names nothing (`named-number`: in the one order)
 
-abbrev pub no_formula : NumberedFormula → Bool
-no_formula (F.Is f) = false
-no_formula F.Unknown = true
+abbrev pub no_formula : Option Formula → Bool
+no_formula (Some f) = false
+no_formula None = true
 
-abbrev pub no_white : Numbered → Bool
-no_white (W.Is w) = false
-no_white W.Unknown = true
+abbrev pub no_white : Option White → Bool
+no_white (Some w) = false
+no_white None = true
 
-abbrev pub number_faults : NumberedFormula → Numbered → List Fault
+abbrev pub number_faults : Option Formula → Option White → List Fault
 number_faults f w = fault at_formula 1 (no_formula f) ∷ fault at_white 2 (no_white w) ∷ []
 
-abbrev pub named : NumberedFormula → Numbered → (l c tolerance : ℕ) → SettingsOf
-named (F.Is f) (W.Is w) l c tolerance = S.Are (record { formula = f; white = w; l = l; c = c; tolerance = tolerance })
-named (F.Is f) W.Unknown l c tolerance = S.Refused (refusal (number_faults (F.Is f) W.Unknown))
-named F.Unknown w l c tolerance = S.Refused (refusal (number_faults F.Unknown w))
+abbrev pub named : Option Formula → Option White → (l c tolerance : ℕ) → Result Settings Refusal
+named (Some f) (Some w) l c tolerance = Ok (record { formula = f; white = w; l = l; c = c; tolerance = tolerance })
+named (Some f) None l c tolerance = Err Why.White
+named None w l c tolerance = Err Why.Formula
 
-unfoldable pub settings_of : (formula white l c tolerance : ℕ) → SettingsOf
+unfoldable pub settings_of : (formula white l c tolerance : ℕ) → Result Settings Refusal
 settings_of formula white l c tolerance = named (formula_numbered formula) (white_numbered white) l c tolerance
+
+-- by those that a load gives
+abbrev pub settings_by : LoadNumbers → Result Settings Refusal
+settings_by n = settings_of n.formula n.white n.l n.c n.tolerance
 
 -- ---- settings and a reference: 3 for l, 3 for c, 4, then the reference's 5, 6 or 8
 
@@ -56,20 +56,18 @@ reading_fault p r = record { place = p; number = refusal_of r }
 unfoldable pub accept_faults : Settings → (reference : Placed) → List Fault
 accept_faults s reference = reading_fault at_reference reference ∷ range_faults s.l s.c s.tolerance
 
+-- what settings and a reference come to
+abbrev pub Acceptance : Type 0
+Acceptance = Result Standard Refusal
+
 -- with no fault the reference is placed
 abbrev pub accepted : Settings → (reference : Placed) → Acceptance
-accepted s (P.At c) = Accepted (record { settings = s; colour = c })
-accepted s (P.Refused n) = Refused n
+accepted s (Ok c) = Ok (record { settings = s; colour = c })
+accepted s (Err e) = Err e
 
 unfoldable pub acceptance : Settings → (reference : Placed) → Acceptance
 acceptance s reference =
-    let n : ℕ = refusal (accept_faults s reference) in
-    cond (eqb n 0) (accepted s reference) (Refused n)
-
--- its refusal's number, 0 for none
-abbrev pub number_of : Acceptance → ℕ
-number_of (Refused n) = n
-number_of (Accepted s) = 0
+    refused_by (refusal_numbered (refusal (accept_faults s reference))) (accepted s reference)
 
 -- ---- every number of a standard lies in its range
 
@@ -80,8 +78,8 @@ pub record Valid (s : Standard) : Type 0 where
   pub colour : OnGrid s.colour
 
 abbrev pub ValidIn : Acceptance → Type 0
-ValidIn a = (s : Standard) → a ≡ Accepted s → Valid s
+ValidIn a = (s : Standard) → a ≡ Ok s → Valid s
 
 -- a reading that is placed lies on the grid
 abbrev pub PlacedOn : Placed → Type 0
-PlacedOn p = (c : GridColour) → p ≡ P.At c → OnGrid c
+PlacedOn p = (c : GridColour) → p ≡ Ok c → OnGrid c

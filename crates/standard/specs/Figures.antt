@@ -1,22 +1,21 @@
 -- docs/SCOPE.md 3.5, 8.4: what a load and a judgement hand back as floats. Assumes nothing.
-use Rattle.std.specs.Prelude.{false, ℕ, pos, Float}
+use Rattle.std.specs.Prelude.{false, ℕ, pos, Float, Ok, Err, Some, None}
 use Rattle.std.specs.Float.{fin}
 use Rattle.reading.specs.Grid.{value_of}
 use Rattle.colour.specs.Conversion.{at_places}
+use Rattle.colour.specs.Refusal.{number_of_refusal}
 use Rattle.colour.specs.declared.conversion.GridColour.{GridColour}
 use Rattle.sheet.specs.Sheet.{semi_axes}
 use Rattle.sheet.specs.declared.differences.Differences.{Differences}
 use Rattle.sheet.specs.declared.semi_axes.SemiAxes.{SemiAxes}
 use Rattle.standard.specs.declared.accept.Standard.{Standard}
-use Rattle.standard.specs.declared.accept.Acceptance.{Acceptance}
-use Rattle.standard.specs.declared.accept.Acceptance.TheVariants as A
-use Rattle.standard.specs.declared.judge.Outcome.{Outcome}
-use Rattle.standard.specs.declared.judge.Outcome.TheVariants as O
+use Rattle.standard.specs.Acceptance.{Acceptance}
+use Rattle.standard.specs.Judgement.{Outcome}
 use Rattle.standard.specs.declared.figures.ReferenceFigures.{ReferenceFigures}
 use Rattle.standard.specs.declared.figures.ReferenceAnswer.{ReferenceAnswer}
 use Rattle.standard.specs.declared.figures.SpecimenFigures.{SpecimenFigures}
 use Rattle.standard.specs.declared.figures.SpecimenAnswer.{SpecimenAnswer}
-use Rattle.standard.specs.declared.figures.Named.TheVariants.{Nothing, Names}
+use Rattle.standard.specs.declared.figures.Names.{Names}
 
 -- 0.0, which is every figure of a refused call
 abbrev pub zero : Float
@@ -45,8 +44,8 @@ reference_figures s =
     }
 
 unfoldable pub reference_answer : Acceptance → ReferenceAnswer
-reference_answer (A.Refused n) = record { number = n; figures = no_reference }
-reference_answer (A.Accepted s) = record { number = 0; figures = reference_figures s }
+reference_answer (Err e) = record { number = number_of_refusal e; figures = no_reference }
+reference_answer (Ok s) = record { number = 0; figures = reference_figures s }
 
 -- ---- a judgement or a ticket: the test specimen's L*, a*, b* and C, then DL, DC, DH, DE
 
@@ -63,7 +62,8 @@ specimen_figures T C d = record {
 }
 
 unfoldable pub specimen_answer : Outcome → SpecimenAnswer
-specimen_answer (O.Refused n) = record { number = n; figures = no_specimen; names = Nothing }
-specimen_answer (O.Judged j) =
+specimen_answer (Err e) = record { number = number_of_refusal e; figures = no_specimen; names = None }
+specimen_answer (Ok j) =
     let found : SpecimenFigures = specimen_figures j.test j.comparison.C j.comparison.differences in
-    record { number = 0; figures = found; names = Names j.lightness j.chroma j.hue j.verdict }
+    let names : Names = record { lightness = j.lightness; chroma = j.chroma; hue = j.hue; verdict = j.verdict } in
+    record { number = 0; figures = found; names = Some names }

@@ -1,17 +1,15 @@
 -- docs/SCOPE.md 6, 7: what a judgement of a test specimen by a standard comes to. Assumes nothing.
-use Rattle.std.specs.Prelude.{ℕ}
+use Rattle.std.specs.Prelude.{Result, Ok, Err}
 use Rattle.colour.specs.Conversion.Ranges.{OnGrid}
 use Rattle.colour.specs.declared.conversion.GridColour.{GridColour}
-use Rattle.colour.specs.declared.placed.Placed.{Placed}
-use Rattle.colour.specs.declared.placed.Placed.TheVariants as P
+use Rattle.colour.specs.Placed.{Placed}
 use Rattle.sheet.specs.Sheet.{comparison, tolerance_on, verdict_on}
 use Rattle.sheet.specs.declared.comparison.Comparison.{Comparison}
 use Rattle.sheet.specs.declared.settings.Settings.{Settings}
 use Rattle.names.specs.Names.{lightness_name, chroma_name, hue_name, withheld_by}
 use Rattle.standard.specs.declared.accept.Standard.{Standard}
 use Rattle.standard.specs.declared.judge.Judgement.{Judgement}
-use Rattle.standard.specs.declared.judge.Outcome.{Outcome}
-use Rattle.standard.specs.declared.judge.Outcome.TheVariants.{Refused, Judged}
+use Rattle.colour.specs.declared.refusal.Refusal.{Refusal}
 use Rattle.standard.specs.Acceptance.{Valid, PlacedOn}
 
 -- the sheet, the names and the verdict, all from the standard itself
@@ -30,15 +28,14 @@ judgement_of s T =
       withheld = withheld_by by.formula s.colour T;
     }
 
+-- what a test specimen comes to
+abbrev pub Outcome : Type 0
+Outcome = Result Judgement Refusal
+
 -- by the test specimen's place, or its refusal
 unfoldable pub outcome : Standard → (test : Placed) → Outcome
-outcome s (P.At T) = Judged (judgement_of s T)
-outcome s (P.Refused n) = Refused n
-
--- its refusal's number, 0 for none
-abbrev pub number_of : Outcome → ℕ
-number_of (Refused n) = n
-number_of (Judged j) = 0
+outcome s (Ok T) = Ok (judgement_of s T)
+outcome s (Err e) = Err e
 
 -- ---- what is asked: a standard in its ranges, and a test specimen on the grid
 

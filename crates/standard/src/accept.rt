@@ -1,13 +1,14 @@
 // Accepts a standard: settings and a reference.
 ghost use Rattle.std.specs.Prelude.{◌≡◌};
+ghost use Rattle.colour.specs.Refusal.{refusal_of};
 ghost use Rattle.standard.specs.Refusals.{refusal};
-ghost use Rattle.standard.specs.Acceptance.{settings_of, range_faults, acceptance};
+ghost use Rattle.standard.specs.Acceptance.{settings_by, range_faults, acceptance};
 
 use colour::conversion::GridColour;
 use colour::placed::Placed;
-use colour::refusal;
-use colour::white::{Numbered, White};
-use sheet::formula::{Formula, NumberedFormula};
+use colour::refusal::Refusal;
+use colour::white::White;
+use sheet::formula::Formula;
 use sheet::settings::{Settings, is_factor, is_tolerance};
 
 // What judgements go by, the reference on the grid. Nothing that is worked out from these is kept, so that nothing kept
@@ -18,68 +19,54 @@ pub struct Standard {
     pub colour: GridColour,
 }
 
-// What the numbers of a load come to.
-#[derive(Clone, Copy)]
-pub enum SettingsOf {
-    Refused(u32),
-    Are(Settings),
+// What a load takes beside its reference: the numbers of a formula and of a white, and l, c and the tolerance in
+// thousandths.
+#[derive(Clone, Copy, Debug, PartialEq, Eq)]
+pub struct LoadNumbers {
+    pub formula: u32,
+    pub white: u32,
+    pub l: u32,
+    pub c: u32,
+    pub tolerance: u32,
 }
 
 // What settings and a reference come to.
-#[derive(Clone, Copy)]
-pub enum Acceptance {
-    Refused(u32),
-    Accepted(Standard),
-}
+pub type Acceptance = Result<Standard, Refusal>;
 
 // The settings that the numbers of a formula and of a white name: 1, then 2, where there is no such formula or white.
-pub fn settings_of(formula: u32, white: u32, l: u32, c: u32, tolerance: u32) -> SettingsOf
-    ensures { result ≡ settings_of formula white l c tolerance }
+#[tactic(auto, unfolding(crate::specs::Acceptance::settings_of))]
+pub fn settings_of(n: LoadNumbers) -> Result<Settings, Refusal>
+    ensures { result ≡ settings_by n }
 {
-    match Formula::numbered(formula) {
-        NumberedFormula::Unknown => SettingsOf::Refused(refusal::FORMULA),
-        NumberedFormula::Is(f) => match White::numbered(white) {
-            Numbered::Unknown => SettingsOf::Refused(refusal::WHITE),
-            Numbered::Is(w) => SettingsOf::Are(Settings {
-                formula: f,
-                white: w,
-                l: l as u64,
-                c: c as u64,
-                tolerance: tolerance as u64,
-            }),
-        },
-    }
+    Ok(Settings {
+        formula: Formula::try_from(n.formula)?,
+        white: White::try_from(n.white)?,
+        l: u64::from(n.l),
+        c: u64::from(n.c),
+        tolerance: u64::from(n.tolerance),
+    })
 }
 
-// 3 for l, then 3 for c, then 4, or 0.
-fn range_refusal(l: u64, c: u64, tolerance: u64) -> u32
-    ensures { result ≡ refusal (range_faults l c tolerance) }
+// 3 for l, then 3 for c, then 4.
+fn check_ranges(s: Settings) -> Result<(), Refusal>
+    ensures { refusal_of result ≡ refusal (range_faults s.l s.c s.tolerance) }
 {
-    if !is_factor(l) {
-        return refusal::FACTOR;
+    if !is_factor(s.l) || !is_factor(s.c) {
+        return Err(Refusal::Factor);
     }
-    if !is_factor(c) {
-        return refusal::FACTOR;
+    if !is_tolerance(s.tolerance) {
+        return Err(Refusal::Tolerance);
     }
-    if !is_tolerance(tolerance) {
-        return refusal::TOLERANCE;
-    }
-    0
+    Ok(())
 }
 
 // The standard, or the first refusal: that of a range, then the reference's.
 pub fn accept(s: Settings, reference: Placed) -> Acceptance
     ensures { result ≡ acceptance s reference }
 {
-    let n = range_refusal(s.l, s.c, s.tolerance);
-    if n != 0 {
-        return Acceptance::Refused(n);
-    }
-    match reference {
-        Placed::At(colour) => Acceptance::Accepted(Standard {
-            settings: s,
-            colour: colour,
-        }),
-        Placed::Refused(number) => Acceptance::Refused(number),
-    }
+    check_ranges(s)?;
+    Ok(Standard {
+        settings: s,
+        colour: reference?,
+    })
 }

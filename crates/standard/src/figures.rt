@@ -1,4 +1,5 @@
-// What a load and a judgement hand back as floats: the refusal's number or 0, and the figures, all 0.0 on a refusal.
+// What a load and a judgement hand back as floats: the refusal's number or 0, and the figures, all 0.0 on a refusal. A
+// number beside figures, and no Result: so C takes it, and `specs/Figures.antt` has the zeros.
 ghost use Rattle.std.specs.Prelude.{◌≡◌};
 ghost use Rattle.colour.specs.Conversion.Ranges.{OnGrid};
 ghost use Rattle.standard.specs.Acceptance.{ValidIn};
@@ -45,26 +46,27 @@ pub struct SpecimenFigures {
 }
 
 #[derive(Clone, Copy)]
-pub enum Named {
-    Nothing,
-    Names(Lightness, Chroma, Hue, Verdict),
+pub struct Names {
+    pub lightness: Lightness,
+    pub chroma: Chroma,
+    pub hue: Hue,
+    pub verdict: Verdict,
 }
 
 #[derive(Clone, Copy)]
 pub struct SpecimenAnswer {
     pub number: u32,
     pub figures: SpecimenFigures,
-    pub names: Named,
+    pub names: Option<Names>,
 }
 
+#[tactic(auto, unfolding(crate::specs::Figures::reference_figures))]
 fn reference_figures(s: Standard) -> ReferenceFigures
     requires { OnGrid s.colour }
     ensures { result ≡ reference_figures s }
 {
-    let settings = s.settings;
-    let formula = settings.formula;
     let colour = s.colour;
-    let axes = semi_axes_of(formula, colour);
+    let axes = semi_axes_of(s.settings.formula, colour);
     ReferenceFigures {
         L: colour.L.value(),
         a: colour.a.value(),
@@ -77,13 +79,14 @@ fn reference_figures(s: Standard) -> ReferenceFigures
 }
 
 // The answer of a load.
+#[tactic(auto, unfolding(crate::specs::Figures::reference_answer))]
 pub fn reference_answer(a: Acceptance) -> ReferenceAnswer
     requires { ValidIn a }
     ensures { result ≡ reference_answer a }
 {
     match a {
-        Acceptance::Refused(number) => ReferenceAnswer {
-            number: number,
+        Err(refusal) => ReferenceAnswer {
+            number: u32::from(refusal),
             figures: ReferenceFigures {
                 L: 0.0,
                 a: 0.0,
@@ -94,13 +97,14 @@ pub fn reference_answer(a: Acceptance) -> ReferenceAnswer
                 SH: 0.0,
             },
         },
-        Acceptance::Accepted(s) => ReferenceAnswer {
+        Ok(s) => ReferenceAnswer {
             number: 0,
             figures: reference_figures(s),
         },
     }
 }
 
+#[tactic(auto, unfolding(crate::specs::Figures::specimen_figures))]
 fn specimen_figures(test: GridColour, c: u64, d: Differences) -> SpecimenFigures
     ensures { result ≡ specimen_figures test c d }
 {
@@ -117,12 +121,13 @@ fn specimen_figures(test: GridColour, c: u64, d: Differences) -> SpecimenFigures
 }
 
 // The answer of a judgement or a ticket.
+#[tactic(auto, unfolding(crate::specs::Figures::specimen_answer))]
 pub fn specimen_answer(o: Outcome) -> SpecimenAnswer
     ensures { result ≡ specimen_answer o }
 {
     match o {
-        Outcome::Refused(number) => SpecimenAnswer {
-            number: number,
+        Err(refusal) => SpecimenAnswer {
+            number: u32::from(refusal),
             figures: SpecimenFigures {
                 L: 0.0,
                 a: 0.0,
@@ -133,21 +138,17 @@ pub fn specimen_answer(o: Outcome) -> SpecimenAnswer
                 DH: 0.0,
                 DE: 0.0,
             },
-            names: Named::Nothing,
+            names: None,
         },
-        Outcome::Judged(j) => {
-            let test = j.test;
-            let differences = j.comparison.differences;
-            let figures = specimen_figures(test, j.comparison.C, differences);
-            let lightness = j.lightness;
-            let chroma = j.chroma;
-            let hue = j.hue;
-            let verdict = j.verdict;
-            SpecimenAnswer {
-                number: 0,
-                figures: figures,
-                names: Named::Names(lightness, chroma, hue, verdict),
-            }
-        }
+        Ok(j) => SpecimenAnswer {
+            number: 0,
+            figures: specimen_figures(j.test, j.comparison.C, j.comparison.differences),
+            names: Some(Names {
+                lightness: j.lightness,
+                chroma: j.chroma,
+                hue: j.hue,
+                verdict: j.verdict,
+            }),
+        },
     }
 }

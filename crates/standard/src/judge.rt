@@ -5,6 +5,7 @@ ghost use Rattle.standard.specs.Judgement.{Judgeable, Specimen, judgement_of, ou
 use crate::accept::Standard;
 use colour::conversion::GridColour;
 use colour::placed::Placed;
+use colour::refusal::Refusal;
 use comparison::comparison_of;
 use names::{Chroma, Hue, Lightness, chroma_name, hue_name, is_withheld, lightness_name};
 use sheet::comparison::Comparison;
@@ -26,47 +27,34 @@ pub struct Judgement {
 }
 
 // What a test specimen comes to.
-#[derive(Clone, Copy)]
-pub enum Outcome {
-    Refused(u32),
-    Judged(Judgement),
-}
+pub type Outcome = Result<Judgement, Refusal>;
 
 // The sheet, the names and the verdict: the semi-axes are worked out anew from the standard.
 fn judgement_of(s: Standard, t: GridColour) -> Judgement
     requires { Specimen s t }
     ensures { result ≡ judgement_of s t }
 {
-    let settings = s.settings;
-    let formula = settings.formula;
-    let colour = s.colour;
-    let found = comparison_of(formula, settings.l, settings.c, colour, t);
-    let lightness = lightness_name(found.shift.L);
-    let chroma = chroma_name(found.shift.C);
-    let hue = hue_name(found.cross, found.dot, colour.a.0, colour.b.0);
-    let tolerance = Scaled::tolerance(formula, settings.tolerance);
-    let scaled = found.scaled;
-    let verdict = scaled.verdict(tolerance);
-    let withheld = is_withheld(formula, colour, t);
+    let by = s.settings;
+    let r = s.colour;
+    let found = comparison_of(by.formula, by.l, by.c, r, t);
+    let tolerance = Scaled::tolerance(by.formula, by.tolerance);
     Judgement {
         standard: s,
         test: t,
         comparison: found,
-        lightness: lightness,
-        chroma: chroma,
-        hue: hue,
-        verdict: verdict,
-        withheld: withheld,
+        lightness: lightness_name(found.shift.L),
+        chroma: chroma_name(found.shift.C),
+        hue: hue_name(found.cross, found.dot, r.a.0, r.b.0),
+        verdict: found.scaled.verdict(tolerance),
+        withheld: is_withheld(by.formula, r, t),
     }
 }
 
 // The judgement, or the test specimen's refusal.
+#[tactic(auto, unfolding(crate::specs::Judgement::outcome))]
 pub fn judge(s: Standard, test: Placed) -> Outcome
     requires { Judgeable s test }
     ensures { result ≡ outcome s test }
 {
-    match test {
-        Placed::At(t) => Outcome::Judged(judgement_of(s, t)),
-        Placed::Refused(number) => Outcome::Refused(number),
-    }
+    Ok(judgement_of(s, test?))
 }

@@ -1,23 +1,19 @@
 -- docs/SCOPE.md 1.4, the station's slice: formula 1 byte, white 1, l 2, c 2, tolerance 2, L* 4, a* 4, b* 4, with no
 -- padding, the least byte first; the colour in grid units, in two's complement. Assumes nothing.
-use Rattle.std.specs.Prelude.{true, cond, List, [], ◌∷◌, ◌++◌, ℕ, ◌+◌, ◌-◌, ◌*◌, ◌/◌, ◌%◌, ◌^◌, ltb, eqb, ℤ, pos, length, get_or, replicate}
+use Rattle.std.specs.Prelude.{true, cond, List, [], ◌∷◌, ◌++◌, ℕ, ◌+◌, ◌-◌, ◌*◌, ◌/◌, ◌%◌, ◌^◌, ltb, eqb, ℤ, pos, length, get_or, replicate, Result, Ok, Err, Option, Some, None}
 use Rattle.rounding.specs.Signed.{∣◌∣, minus, signed}
 use Rattle.reading.specs.Grid.{grid_of}
 use Rattle.colour.specs.Conversion.{on_grid}
 use Rattle.colour.specs.White.{number_of_white}
 use Rattle.colour.specs.declared.conversion.GridColour.{GridColour}
-use Rattle.colour.specs.declared.placed.Placed.{Placed}
-use Rattle.colour.specs.declared.placed.Placed.TheVariants as P
+use Rattle.colour.specs.Placed.{Placed}
 use Rattle.sheet.specs.Settings.{number_of_formula}
 use Rattle.sheet.specs.declared.settings.Settings.{Settings}
 use Rattle.standard.specs.declared.accept.Standard.{Standard}
-use Rattle.standard.specs.declared.accept.SettingsOf.{SettingsOf}
-use Rattle.standard.specs.declared.accept.SettingsOf.TheVariants as S
-use Rattle.standard.specs.declared.accept.Acceptance.{Acceptance}
-use Rattle.standard.specs.declared.accept.Acceptance.TheVariants.{Refused, Accepted}
+use Rattle.colour.specs.declared.refusal.Refusal.{Refusal}
+use Rattle.standard.specs.Acceptance.{Acceptance}
 use Rattle.standard.specs.Acceptance.{settings_of, acceptance}
-use Rattle.station.specs.declared.Station.{Station}
-use Rattle.station.specs.declared.Station.TheVariants.{Empty, Holds}
+use Rattle.colour.specs.declared.refusal.Refusal.TheVariants as Why
 pub mod Laws
 pub mod Numbers
 pub mod Back
@@ -63,7 +59,7 @@ store_in s xs = cond (eqb (length xs) 20) (encode s) xs
 
 -- ---- read: what the numbers would be accepted as
 
-abbrev pub settings_in : List ℕ → SettingsOf
+abbrev pub settings_in : List ℕ → Result Settings Refusal
 settings_in xs = settings_of (get_or xs 0 0) (get_or xs 1 0) (two xs 2) (two xs 4) (two xs 6)
 
 abbrev pub colour_in : List ℕ → GridColour
@@ -72,19 +68,19 @@ colour_in xs =
 
 -- one that lies beyond the grid is out of range
 unfoldable pub placed : GridColour → Placed
-placed c = cond (on_grid c) (P.At c) (P.Refused 6)
+placed c = cond (on_grid c) (Ok c) (Err Why.OutOfRange)
 
-abbrev pub held_as : Acceptance → Station
-held_as (Refused n) = Empty
-held_as (Accepted s) = Holds s
+abbrev pub held_as : Acceptance → Option Standard
+held_as (Err n) = None
+held_as (Ok s) = Some s
 
-abbrev pub held_by : SettingsOf → Placed → Station
-held_by (S.Refused n) reference = Empty
-held_by (S.Are s) reference = held_as (acceptance s reference)
+abbrev pub held_by : Result Settings Refusal → Placed → Option Standard
+held_by (Err n) reference = None
+held_by (Ok s) reference = held_as (acceptance s reference)
 
 -- a slice of another length, or with any number out of its range, holds no standard
-unfoldable pub decode : List ℕ → Station
-decode xs = cond (eqb (length xs) 20) (held_by (settings_in xs) (placed (colour_in xs))) Empty
+unfoldable pub decode : List ℕ → Option Standard
+decode xs = cond (eqb (length xs) 20) (held_by (settings_in xs) (placed (colour_in xs))) None
 
 -- a slice that the host has just cleared
 unfoldable pub zeros : List ℕ

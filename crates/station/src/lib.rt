@@ -1,55 +1,33 @@
 // The station: what it holds between calls, and the slice that it lies in.
 #![tactic(auto)]
 
-mod bytes;
 mod record;
 
 ghost use Rattle.std.specs.Prelude.{◌≡◌, eqb, length};
-ghost use Rattle.station.specs.Record.{store_in, settings_in, colour_in, placed, held_by, decode};
+ghost use Rattle.station.specs.Record.{store_in, decode};
 
-use crate::record::{bytes_of, colour_at, copy, settings_at};
-use standard::accept::{Acceptance, SettingsOf, Standard, accept};
+use crate::record::{bytes_of, colour_at, settings_at};
+use standard::accept::{Standard, accept};
 
-#[derive(Clone, Copy)]
-pub enum Station {
-    Empty,
-    Holds(Standard),
-}
-
-// Stores a standard in a slice of 20 bytes; a slice of another length stays, and the answer is false.
+// Stores a standard in a slice of 20 bytes; a slice of another length stays, and the answer is false. No refusal: which
+// one it is, its caller says. Where a load writes, and nowhere else.
+#[tactic(auto, unfolding(crate::specs::Record::store_in))]
 pub fn store(s: Standard, slice: &mut [u8]) -> bool
     ensures { (result ≡ eqb (length slice.old) 20) × (slice.new ≡ store_in s slice.old) }
 {
     if slice.len() == 20 {
-        let b = bytes_of(s);
-        copy(slice, &b);
+        slice.copy_from_slice(&bytes_of(s));
         true
     } else {
         false
     }
 }
 
-// What 20 bytes hold: a standard, where their numbers are those of one that would be accepted.
-fn held_in(s: &[u8]) -> Station
-    requires { length s.now ≡ 20 }
-    ensures { result ≡ held_by (settings_in s.now) (placed (colour_in s.now)) }
-{
-    match settings_at(s) {
-        SettingsOf::Refused(_) => Station::Empty,
-        SettingsOf::Are(settings) => match accept(settings, colour_at(s)) {
-            Acceptance::Refused(_) => Station::Empty,
-            Acceptance::Accepted(standard) => Station::Holds(standard),
-        },
-    }
-}
-
-// What a slice holds.
-pub fn read(s: &[u8]) -> Station
+// The standard that a slice holds, if it holds one: 20 bytes, with the numbers of one that would be accepted.
+#[tactic(auto, unfolding(crate::specs::Record::decode))]
+pub fn read(s: &[u8]) -> Option<Standard>
     ensures { result ≡ decode s.now }
 {
-    if s.len() == 20 {
-        held_in(s)
-    } else {
-        Station::Empty
-    }
+    let bytes: &[u8; 20] = s.as_array()?;
+    accept(settings_at(bytes).ok()?, colour_at(bytes)).ok()
 }

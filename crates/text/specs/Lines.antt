@@ -1,7 +1,6 @@
 -- A text's lines, parted at LF. Definitions only: Lines/Laws.antt shows that they make up the text, and that no others
 -- do. Assumes nothing.
-use Rattle.std.specs.Prelude.{ℕ, zero, suc, Bool, true, false, cond, List, [], ◌∷◌, eqb}
-use Rattle.std.proofs.Math.Option.{Option, none, some}
+use Rattle.std.specs.Prelude.{ℕ, zero, suc, Bool, true, false, cond, List, [], ◌∷◌, eqb, Option, None, Some}
 use Rattle.text.specs.Bytes.{starts_with}
 
 -- a line without its LF; what stands after the last LF is a line too, one that lacks its LF
@@ -29,12 +28,12 @@ lines_of (x ∷ s) = cond (eqb x 10) (ended [] ∷ lines_of s) (longer x (lines_
 
 -- the n-th of a list, counted from 1
 unfoldable pub nth : {A : Type 0} → ℕ → List A → Option A
-nth n [] = none
-nth zero (x ∷ xs) = none
-nth (suc zero) (x ∷ xs) = some x
+nth n [] = None
+nth zero (x ∷ xs) = None
+nth (suc zero) (x ∷ xs) = Some x
 nth (suc (suc n)) (x ∷ xs) = nth (suc n) xs
 
 -- there is such a line, and it starts with the key
 abbrev pub starts_line : (key : List ℕ) → Option Line → Bool
-starts_line key none = false
-starts_line key (some x) = starts_with key (content x)
+starts_line key None = false
+starts_line key (Some x) = starts_with key (content x)

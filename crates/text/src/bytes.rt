@@ -3,45 +3,24 @@ ghost use Rattle.std.specs.Prelude.{◌≡◌};
 ghost use Rattle.text.specs.Bytes.{starts_with, same_bytes, before, after};
 ghost use Rattle.text.specs.Bytes.Laws.{Found};
 
-// Where b first stands in s, or s's length.
+// Where b first stands in s, or s's length: no Option, since what stands before it is then all of s.
 pub fn find(s: &[u8], b: u8) -> usize
     ensures { Found b s.now result }
 {
-    let mut i = 0;
-    while i < s.len() {
-        if s[i] == b {
-            return i;
-        }
-        i += 1;
-    }
-    i
+    s.iter().position(|&x| x == b).unwrap_or(s.len())
 }
 
 // Whether s starts with key.
 pub fn starts(s: &[u8], key: &[u8]) -> bool
     ensures { result ≡ starts_with key.now s.now }
 {
-    if s.len() < key.len() {
-        return false;
-    }
-    let mut i = 0;
-    while i < key.len() {
-        if key[i] != s[i] {
-            return false;
-        }
-        i += 1;
-    }
-    true
+    s.starts_with(key)
 }
 
 pub fn same(s: &[u8], t: &[u8]) -> bool
     ensures { result ≡ same_bytes s.now t.now }
 {
-    if s.len() == t.len() {
-        starts(t, s)
-    } else {
-        false
-    }
+    s == t
 }
 
 // What stands before the first b, or all of s.

@@ -6,7 +6,7 @@ ghost use Rattle.text.specs.Decimal.{whole_text, last_digits, minus_sign, decima
 use crate::put::put;
 
 // A decimal as it is shown: its magnitude in units of 10^-places and in whole ones, and whether a minus stands before
-// it.
+// it, which its whole ones alone cannot say.
 #[derive(Clone, Copy)]
 pub struct Shown {
     pub places: u32,
@@ -19,13 +19,7 @@ pub struct Shown {
 pub fn whole_len(n: u64) -> usize
     ensures { (result ≡ length (whole_text n)) × (result ≤ 20) }
 {
-    let mut left = n;
-    let mut k = 1;
-    while 9 < left {
-        left /= 10;
-        k += 1;
-    }
-    k
+    n.checked_ilog10().map_or(1, |k| k as usize + 1)
 }
 
 // Puts the last k digits of n, from the last one back.
@@ -34,10 +28,8 @@ fn put_digits(dst: &mut [u8], at: usize, k: usize, n: u64) -> usize
     ensures { Puts dst.old at (last_digits k n) result dst.new }
 {
     let mut left = n;
-    let mut j = k;
-    while 0 < j {
-        j -= 1;
-        dst[at + j] = 48 + (left % 10) as u8;
+    for j in (0..k).rev() {
+        dst[at + j] = b'0' + (left % 10) as u8;
         left /= 10;
     }
     at + k
@@ -55,10 +47,7 @@ fn put_minus(dst: &mut [u8], at: usize, shows: bool) -> usize
     requires { Room dst.old at (minus_sign shows) }
     ensures { Puts dst.old at (minus_sign shows) result dst.new }
 {
-    if shows {
-        return put(dst, at, b"-");
-    }
-    at
+    if shows { put(dst, at, b"-") } else { at }
 }
 
 // How many bytes a decimal takes.

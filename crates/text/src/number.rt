@@ -1,130 +1,89 @@
 // Numbers in decimal digits.
 ghost use Rattle.std.specs.Prelude.{◌≡◌, ◌≤◌, ◌^◌, length};
 ghost use Rattle.text.specs.Number.{numeral, digits_of, fraction_of, decimal_of, thousandths_of, signed_of};
-ghost use Rattle.text.specs.Number.Laws.{number_in, signed_in, Sizes};
+ghost use Rattle.text.specs.Number.Laws.{Sizes, Unsigned};
 
-use crate::bytes::{find, part_after, part_before, starts};
+use crate::bytes::{find, part_after, part_before};
 use reading::decimal::Decimal;
 
-// What a text says as a number, if it is one.
-#[derive(Clone, Copy)]
-pub enum NumberRead {
-    Nothing,
-    Is(u64),
-}
-
-#[derive(Clone, Copy)]
-pub enum SignedRead {
-    Nothing,
-    Is(Decimal),
-}
-
-fn wide(x: u8) -> u64
-    ensures { result ≡ x }
-{
-    x as u64
-}
-
-// The number whose digits are s.
-fn value_of_digits(s: &[u8]) -> NumberRead
+// The number whose digits are s, if they are digits.
+fn value_of_digits(s: &[u8]) -> Option<u64>
     requires { length s.now ≤ 6 }
-    ensures { number_in result ≡ numeral 0 s.now }
+    ensures { result ≡ numeral 0 s.now }
 {
     let mut v: u64 = 0;
-    let mut i = 0;
-    while i < s.len() {
-        let b = s[i];
-        if b < 48 {
-            return NumberRead::Nothing;
+    for &b in s {
+        if !b.is_ascii_digit() {
+            return None;
         }
-        if 57 < b {
-            return NumberRead::Nothing;
-        }
-        v = v * 10 + wide(b - 48);
-        i += 1;
+        v = v * 10 + u64::from(b - b'0');
     }
-    NumberRead::Is(v)
+    Some(v)
 }
 
 // 1 to most digits.
-fn digits(s: &[u8], most: usize) -> NumberRead
+fn digits(s: &[u8], most: usize) -> Option<u64>
     requires { most ≤ 6 }
-    ensures { number_in result ≡ digits_of most s.now }
+    ensures { result ≡ digits_of most s.now }
 {
-    if s.len() < 1 {
-        return NumberRead::Nothing;
-    }
-    if most < s.len() {
-        return NumberRead::Nothing;
+    if !(1..=most).contains(&s.len()) {
+        return None;
     }
     value_of_digits(s)
 }
-
-const POWERS: [u64; 7] = [1, 10, 100, 1000, 10000, 100000, 1000000];
 
 fn power(n: usize) -> u64
     requires { n ≤ 6 }
     ensures { result ≡ 10 ^ n }
 {
-    POWERS[n]
+    10_u64.pow(n as u32)
 }
 
 // What stands after the point, if there is one, in units of the last of the places.
-fn fraction(s: &[u8], places: usize) -> NumberRead
+fn fraction(s: &[u8], places: usize) -> Option<u64>
     requires { places ≤ 6 }
-    ensures { number_in result ≡ fraction_of places s.now }
+    ensures { result ≡ fraction_of places s.now }
 {
-    if find(s, 46) < s.len() {
-        let t = part_after(s, 46);
-        match digits(t, places) {
-            NumberRead::Nothing => NumberRead::Nothing,
-            NumberRead::Is(d) => NumberRead::Is(d * power(places - t.len())),
-        }
-    } else {
-        NumberRead::Is(0)
+    if find(s, b'.') == s.len() {
+        return Some(0);
     }
+    let t = part_after(s, b'.');
+    let d = digits(t, places)?;
+    Some(d * power(places - t.len()))
 }
 
 // 1 to whole digits, then perhaps a point and 1 to places digits, in units of the last of the places.
-fn decimal(s: &[u8], whole: usize, places: usize) -> NumberRead
+fn decimal(s: &[u8], whole: usize, places: usize) -> Option<u64>
     requires { Sizes whole places }
-    ensures { number_in result ≡ decimal_of whole places s.now }
+    ensures { result ≡ decimal_of whole places s.now }
 {
-    match digits(part_before(s, 46), whole) {
-        NumberRead::Nothing => NumberRead::Nothing,
-        NumberRead::Is(x) => match fraction(s, places) {
-            NumberRead::Nothing => NumberRead::Nothing,
-            NumberRead::Is(y) => NumberRead::Is(x * power(places) + y),
-        },
-    }
+    let x = digits(part_before(s, b'.'), whole)?;
+    let y = fraction(s, places)?;
+    Some(x * power(places) + y)
 }
 
 // The number of a line l, c or tol, in thousandths.
-pub fn thousandths(s: &[u8]) -> NumberRead
-    ensures { number_in result ≡ thousandths_of s.now }
+pub fn thousandths(s: &[u8]) -> Option<u64>
+    ensures { result ≡ thousandths_of s.now }
 {
     decimal(s, 2, 3)
 }
 
-// A number of a line ref or test.
-pub fn signed(s: &[u8]) -> SignedRead
-    ensures { signed_in result ≡ signed_of s.now }
+// Whether a minus stands before, and what is left without it, both of which a `Decimal` has.
+fn without_minus(s: &[u8]) -> (bool, &[u8])
+    ensures { Unsigned s.now result.0 result.1.now }
 {
-    if starts(s, b"-") {
-        match decimal(&s[1..], 3, 6) {
-            NumberRead::Nothing => SignedRead::Nothing,
-            NumberRead::Is(m) => SignedRead::Is(Decimal {
-                below: true,
-                millionths: m,
-            }),
-        }
-    } else {
-        match decimal(s, 3, 6) {
-            NumberRead::Nothing => SignedRead::Nothing,
-            NumberRead::Is(m) => SignedRead::Is(Decimal {
-                below: false,
-                millionths: m,
-            }),
-        }
+    match s.strip_prefix(b"-") {
+        Some(rest) => (true, rest),
+        None => (false, s),
     }
+}
+
+// A number of a line ref or test.
+pub fn signed(s: &[u8]) -> Option<Decimal>
+    ensures { result ≡ signed_of s.now }
+{
+    let (below, unsigned) = without_minus(s);
+    let millionths = decimal(unsigned, 3, 6)?;
+    Some(Decimal { below, millionths })
 }

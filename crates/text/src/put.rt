@@ -6,10 +6,7 @@ pub fn put(dst: &mut [u8], at: usize, src: &[u8]) -> usize
     requires { Room dst.old at src.now }
     ensures { Puts dst.old at src.now result dst.new }
 {
-    let mut j = 0;
-    while j < src.len() {
-        dst[at + j] = src[j];
-        j += 1;
-    }
-    at + j
+    let end = at + src.len();
+    dst[at..end].copy_from_slice(src);
+    end
 }

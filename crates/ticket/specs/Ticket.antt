@@ -2,25 +2,23 @@
 -- wrong line. Definitions only. Ticket/Grammar.antt says the same of a text's lines, with no parser, and shows the two
 -- to be one; Ticket/Laws.antt has what the proofs go by, Ticket/Theorems.antt and Ticket/AsWritten.antt what follows,
 -- Ticket/Cases.antt texts and their answers. Assumes nothing.
-use Rattle.std.specs.Prelude.{ℕ, ◌+◌, cond, ◌&&◌, List, [], ◌∷◌, ltb, length, drop}
-use Rattle.std.proofs.Math.Option.{Option, none, some}
+use Rattle.std.specs.Prelude.{ℕ, ◌+◌, cond, ◌&&◌, List, [], ◌∷◌, ltb, length, drop, Option, None, Some, Result, Ok, Err}
 use Rattle.text.specs.Ascii.{ascii}
 use Rattle.text.specs.Bytes.{has, before, after, starts_with, same_bytes}
 use Rattle.text.specs.Names.{formula_name, white_name}
 use Rattle.text.specs.Number.{both, thousandths_of, signed_of}
 use Rattle.reading.specs.declared.decimal.Decimal.{Decimal}
-use Rattle.colour.specs.declared.placed.Written.{Written}
-use Rattle.colour.specs.declared.placed.Written.TheVariants as W
+use Rattle.colour.specs.Placed.{Written, in_space}
+use Rattle.colour.specs.declared.placed.Values.TheVariants as W
 use Rattle.colour.specs.declared.white.White.{White}
 use Rattle.colour.specs.declared.white.White.TheVariants.{D65Ten, D65Two, CTen, CTwo}
 use Rattle.sheet.specs.declared.formula.Formula.{Formula}
 use Rattle.sheet.specs.declared.formula.Formula.TheVariants.{CIELAB, CIE94, CMC}
 use Rattle.sheet.specs.declared.settings.Settings.{Settings}
-use Rattle.ticket.specs.declared.value.Space.{Space}
-use Rattle.ticket.specs.declared.value.Space.TheVariants.{Xyz, Lab}
+use Rattle.colour.specs.declared.placed.Space.{Space}
+use Rattle.colour.specs.declared.placed.Space.TheVariants.{Xyz, Lab}
 use Rattle.ticket.specs.declared.lines.Ticket.{Ticket}
-use Rattle.ticket.specs.declared.lines.Parsed.{Parsed}
-use Rattle.ticket.specs.declared.lines.Parsed.TheVariants.{Right, Wrong}
+use Rattle.ticket.specs.declared.lines.WrongLine.{WrongLine}
 pub mod Laws
 pub mod Grammar
 pub mod Print
@@ -29,8 +27,8 @@ pub mod Print
 
 -- the one of xs whose name s is
 unfoldable pub named : {A : Type 0} → (name : A → List ℕ) (xs : List A) (s : List ℕ) → Option A
-named name [] s = none
-named name (x ∷ xs) s = cond (same_bytes s (name x)) (some x) (named name xs s)
+named name [] s = None
+named name (x ∷ xs) s = cond (same_bytes s (name x)) (Some x) (named name xs s)
 
 abbrev pub formula_named : List ℕ → Option Formula
 formula_named s = named formula_name (CIELAB ∷ CIE94 ∷ CMC ∷ []) s
@@ -44,10 +42,6 @@ space_name Lab = ascii "LAB"
 
 abbrev pub space_named : List ℕ → Option Space
 space_named s = named space_name (Xyz ∷ Lab ∷ []) s
-
-unfoldable pub in_space : Space → (x y z : Decimal) → Written
-in_space Xyz x y z = W.Xyz x y z
-in_space Lab x y z = W.Lab x y z
 
 abbrev pub space_of : Written → Space
 space_of (W.Xyz x y z) = Xyz
@@ -64,9 +58,16 @@ reading_of space s =
 
 -- ---- a line
 
+-- the ticket, or the number of its first wrong line
+abbrev pub Parsed : Type 0
+Parsed = Result Ticket WrongLine
+
+abbrev pub wrong_line : ℕ → Parsed
+wrong_line n = Err (record { 0 = n })
+
 abbrev pub or_wrong : {A : Type 0} → ℕ → Option A → (A → Parsed) → Parsed
-or_wrong n none next = Wrong n
-or_wrong n (some x) next = next x
+or_wrong n None next = wrong_line n
+or_wrong n (Some x) next = next x
 
 -- The text s starts with line n, a line KEY=VALUE that ends at the first LF. A line that is missing or lacks its LF,
 -- another key and a value that says nothing are wrong; otherwise `next` has what the value says, and the text after the
@@ -75,15 +76,15 @@ unfoldable pub due : {A : Type 0} → ℕ → (key : List ℕ) → (List ℕ →
 due n key value next s =
     cond (has 10 s && starts_with key (before 10 s))
     (or_wrong n (value (drop (length key) (before 10 s))) (λ x. next x (after 10 s)))
-    (Wrong n)
+    (wrong_line n)
 
 -- ---- the lines in their order, the last one first
 -- n is the number of the line that the text starts with, p the settings so far
 
 -- nothing may follow
 unfoldable pub nothing_more : ℕ → Ticket → List ℕ → Parsed
-nothing_more n t [] = Right t
-nothing_more n t (x ∷ s) = Wrong n
+nothing_more n t [] = Ok t
+nothing_more n t (x ∷ s) = wrong_line n
 
 unfoldable pub test_line : ℕ → Settings → Space → (reference : Written) → List ℕ → Parsed
 test_line n p space r =
@@ -128,4 +129,4 @@ white_line n f = due n (ascii "white=") white_named (λ w. factor_lines (n + 1) 
 
 -- THE TICKET: at most 4,096 bytes
 unfoldable pub ticket_of : List ℕ → Parsed
-ticket_of s = cond (ltb 4096 (length s)) (Wrong 0) (due 1 (ascii "formula=") formula_named (white_line 2) s)
+ticket_of s = cond (ltb 4096 (length s)) (wrong_line 0) (due 1 (ascii "formula=") formula_named (white_line 2) s)

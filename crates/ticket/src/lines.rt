@@ -1,19 +1,17 @@
-// The lines of a ticket, in their order: each function reads one line of what is left of the text, and hands the rest
-// on.
-ghost use Rattle.std.specs.Prelude.{◌≡◌, ◌≤◌};
-ghost use Rattle.ticket.specs.Ticket.{white_line, factor_lines, c_line, tol_line, space_line, ref_line, test_line};
-ghost use Rattle.ticket.specs.Ticket.{ticket_of};
-ghost use Rattle.ticket.specs.Ticket.Laws.{value_of};
+// The lines of a ticket, one after the other.
+ghost use Rattle.std.specs.Prelude.{◌≡◌, ◌+◌, ◌≤◌, IfOk, Ok};
+ghost use Rattle.colour.specs.declared.white.White.{White};
+ghost use Rattle.sheet.specs.declared.formula.Formula.{Formula};
+ghost use Rattle.sheet.specs.declared.settings.Settings.{Settings};
+ghost use Rattle.text.specs.Bytes.{after};
+ghost use Rattle.ticket.specs.Ticket.{factor_lines, tol_line, space_line, filled, blank, ticket_of};
+ghost use Rattle.ticket.specs.Ticket.Laws.{value_of, formula_line, GoesOn};
 
-use crate::value::{
-    FormulaRead, ReadingRead, Space, SpaceRead, WhiteRead, formula_named, reading_of, space_named,
-    white_named,
-};
-use colour::placed::Written;
-use sheet::formula::Formula;
+use crate::value::{formula_named, reading_of, space_named, white_named};
+use colour::placed::{Space, Written};
 use sheet::settings::Settings;
 use text::bytes::{find, part_after, starts};
-use text::number::{NumberRead, thousandths};
+use text::number::thousandths;
 
 #[derive(Clone, Copy)]
 pub struct Ticket {
@@ -22,118 +20,51 @@ pub struct Ticket {
     pub test: Written,
 }
 
+// The number of the first wrong line, or 0 for a text that is too long: so it is printed.
+#[derive(Clone, Copy, Debug, PartialEq, Eq)]
+pub struct WrongLine(pub u32);
+
+// The ticket, or its first wrong line.
+pub type Parsed = Result<Ticket, WrongLine>;
+
+// What is left of a text, and the number of its first line.
 #[derive(Clone, Copy)]
-pub enum Parsed {
-    Right(Ticket),
-    // The number of the first wrong line.
-    Wrong(u32),
+struct Rest<'a> {
+    text: &'a [u8],
+    line: u32,
 }
 
-// The value of the text's first line, if it has this key and its LF; else nothing, which is no line's value.
-fn value<'a>(s: &'a [u8], key: &[u8]) -> &'a [u8]
-    ensures { result.now ≡ value_of key.now s.now }
-{
-    let i = find(s, 10);
-    if s.len() <= i {
-        return &s[..0];
-    }
-    let line = &s[..i];
-    if starts(line, key) {
-        &line[key.len()..]
-    } else {
-        &s[..0]
-    }
-}
-
-fn test_line(s: &[u8], n: u32, settings: Settings, space: Space, reference: Written) -> Parsed
-    requires { n ≤ 8 }
-    ensures { result ≡ test_line n settings space reference s.now }
-{
-    match reading_of(value(s, b"test="), space) {
-        ReadingRead::Nothing => Parsed::Wrong(n),
-        ReadingRead::Is(test) => {
-            let rest = part_after(s, 10);
-            if rest.len() == 0 {
-                Parsed::Right(Ticket {
-                    settings: settings,
-                    reference: reference,
-                    test: test,
-                })
-            } else {
-                Parsed::Wrong(n + 1)
-            }
+impl<'a> Rest<'a> {
+    // The value of the first line, if it has this key and its LF; else nothing, which is no line's value.
+    fn value(self, key: &[u8]) -> &'a [u8]
+        ensures { result.now ≡ value_of key.now self.entry.text.now }
+    {
+        let end = find(self.text, b'\n');
+        if self.text.len() <= end {
+            return &self.text[..0];
+        }
+        match self.text[..end].strip_prefix(key) {
+            Some(value) => value,
+            None => &self.text[..0],
         }
     }
-}
 
-fn ref_line(s: &[u8], n: u32, settings: Settings, space: Space) -> Parsed
-    requires { n ≤ 7 }
-    ensures { result ≡ ref_line n settings space s.now }
-{
-    match reading_of(value(s, b"ref="), space) {
-        ReadingRead::Nothing => Parsed::Wrong(n),
-        ReadingRead::Is(x) => {
-            let rest = part_after(s, 10);
-            test_line(rest, n + 1, settings, space, x)
-        }
+    // The first line is wrong.
+    fn wrong(self) -> WrongLine
+        ensures { result.0 ≡ self.entry.line }
+    {
+        WrongLine(self.line)
     }
-}
 
-fn space_line(s: &[u8], n: u32, settings: Settings) -> Parsed
-    requires { n ≤ 6 }
-    ensures { result ≡ space_line n settings s.now }
-{
-    match space_named(value(s, b"space=")) {
-        SpaceRead::Nothing => Parsed::Wrong(n),
-        SpaceRead::Is(x) => {
-            let rest = part_after(s, 10);
-            ref_line(rest, n + 1, settings, x)
-        }
-    }
-}
-
-fn tol_line(s: &[u8], n: u32, mut settings: Settings) -> Parsed
-    requires { n ≤ 5 }
-    ensures { result ≡ tol_line n settings s.now }
-{
-    match thousandths(value(s, b"tol=")) {
-        NumberRead::Nothing => Parsed::Wrong(n),
-        NumberRead::Is(x) => {
-            let rest = part_after(s, 10);
-            settings.tolerance = x;
-            space_line(rest, n + 1, settings)
-        }
-    }
-}
-
-fn c_line(s: &[u8], n: u32, mut settings: Settings) -> Parsed
-    requires { n ≤ 4 }
-    ensures { result ≡ c_line n settings s.now }
-{
-    match thousandths(value(s, b"c=")) {
-        NumberRead::Nothing => Parsed::Wrong(n),
-        NumberRead::Is(x) => {
-            let rest = part_after(s, 10);
-            settings.c = x;
-            tol_line(rest, n + 1, settings)
-        }
-    }
-}
-
-// A line tol= here says that l and c are missing.
-fn factor_lines(s: &[u8], n: u32, mut settings: Settings) -> Parsed
-    requires { n ≤ 3 }
-    ensures { result ≡ factor_lines n settings s.now }
-{
-    if starts(s, b"tol=") {
-        return tol_line(s, n, settings);
-    }
-    match thousandths(value(s, b"l=")) {
-        NumberRead::Nothing => Parsed::Wrong(n),
-        NumberRead::Is(x) => {
-            let rest = part_after(s, 10);
-            settings.l = x;
-            c_line(rest, n + 1, settings)
+    // What is left after the first line.
+    fn next(self) -> Rest<'a>
+        requires { self.line ≤ 8 }
+        ensures text { result.text.now ≡ after 10 self.entry.text.now }
+        ensures line { result.line ≡ self.entry.line + 1 }
+    {
+        Rest {
+            text: part_after(self.text, b'\n'),
+            line: self.line + 1,
         }
     }
 }
@@ -143,24 +74,61 @@ const MISSING_L: u64 = 2000;
 
 const MISSING_C: u64 = 1000;
 
-fn white_line(s: &[u8], n: u32, formula: Formula) -> Parsed
-    requires { n ≤ 2 }
-    ensures { result ≡ white_line n formula s.now }
+// l and c, and what is left after their lines. A line tol= here says that both are missing.
+fn factor_lines(rest: Rest) -> Result<(u64, u64, Rest), WrongLine>
+    requires { rest.line ≤ 3 }
+    ensures line { IfOk result (λ x. x.2.line ≤ 5) }
+    ensures value { (f : Formula) (w : White) →
+        GoesOn (factor_lines rest.entry.line (blank f w) rest.entry.text.now) result
+        (λ x. tol_line x.2.line (filled (blank f w) x.0 x.1 0) x.2.text.now) }
 {
-    match white_named(value(s, b"white=")) {
-        WhiteRead::Nothing => Parsed::Wrong(n),
-        WhiteRead::Is(x) => {
-            let rest = part_after(s, 10);
-            // The tolerance is filled in by its line, which no ticket lacks.
-            let blank = Settings {
-                formula: formula,
-                white: x,
-                l: MISSING_L,
-                c: MISSING_C,
-                tolerance: 0,
-            };
-            factor_lines(rest, n + 1, blank)
-        }
+    if starts(rest.text, b"tol=") {
+        return Ok((MISSING_L, MISSING_C, rest));
+    }
+    let l = thousandths(rest.value(b"l=")).ok_or(rest.wrong())?;
+    let rest = rest.next();
+    let c = thousandths(rest.value(b"c=")).ok_or(rest.wrong())?;
+    Ok((l, c, rest.next()))
+}
+
+// The settings, and what is left after their lines.
+fn setting_lines(rest: Rest) -> Result<(Settings, Rest), WrongLine>
+    requires { rest.line ≤ 1 }
+    ensures line { IfOk result (λ x. x.1.line ≤ 6) }
+    ensures value { GoesOn (formula_line rest.entry.line rest.entry.text.now) result
+        (λ x. space_line x.1.line x.0 x.1.text.now) }
+{
+    let formula = formula_named(rest.value(b"formula=")).ok_or(rest.wrong())?;
+    let rest = rest.next();
+    let white = white_named(rest.value(b"white=")).ok_or(rest.wrong())?;
+    let (l, c, rest) = factor_lines(rest.next())?;
+    let tolerance = thousandths(rest.value(b"tol=")).ok_or(rest.wrong())?;
+    let settings = Settings {
+        formula,
+        white,
+        l,
+        c,
+        tolerance,
+    };
+    Ok((settings, rest.next()))
+}
+
+// The two readings, of one space, after which nothing follows.
+fn reading_lines(rest: Rest) -> Result<(Written, Written), WrongLine>
+    requires { rest.line ≤ 6 }
+    ensures { (p : Settings) → GoesOn (space_line rest.entry.line p rest.entry.text.now) result
+        (λ x. Ok (record { settings = p; reference = x.0; test = x.1 })) }
+{
+    let space = space_named(rest.value(b"space=")).ok_or(rest.wrong())?;
+    let rest = rest.next();
+    let reference = reading_of(rest.value(b"ref="), space).ok_or(rest.wrong())?;
+    let rest = rest.next();
+    let test = reading_of(rest.value(b"test="), space).ok_or(rest.wrong())?;
+    let rest = rest.next();
+    if rest.text.is_empty() {
+        Ok((reference, test))
+    } else {
+        Err(rest.wrong())
     }
 }
 
@@ -169,13 +137,13 @@ pub fn parse(text: &[u8]) -> Parsed
     ensures { result ≡ ticket_of text.now }
 {
     if 4096 < text.len() {
-        return Parsed::Wrong(0);
+        return Err(WrongLine(0));
     }
-    match formula_named(value(text, b"formula=")) {
-        FormulaRead::Nothing => Parsed::Wrong(1),
-        FormulaRead::Is(x) => {
-            let rest = part_after(text, 10);
-            white_line(rest, 2, x)
-        }
-    }
+    let (settings, rest) = setting_lines(Rest { text, line: 1 })?;
+    let (reference, test) = reading_lines(rest)?;
+    Ok(Ticket {
+        settings,
+        reference,
+        test,
+    })
 }

@@ -1,117 +1,138 @@
 // What is printed.
 use crate::tables::Paper;
-use lines::numbers::signed_figure;
+use lines::numbers::{figure_of, signed_figure};
 use names::{Axis, Chroma, Hue};
 use reading::grid::Grid;
-use rounding::signed::magnitude;
 use sheet::differences::Differences;
-use std::io;
-
-pub(crate) fn text(rt: &impl Print, s: &[u8]) -> io::Result<()> {
-    rt.write_all(s)
-}
-
-pub(crate) fn number(rt: &impl Print, n: u64) -> io::Result<()> {
-    rt.print(n)
-}
-
-fn digit(rt: &impl Print, d: u64) -> io::Result<()> {
-    number(rt, d % 10)
-}
+use std::fmt;
+use text::decimal::Shown;
 
 // A figure of grid units, as a report has it.
-fn figure(rt: &impl Print, key: &[u8], z: i64) -> io::Result<()> {
-    let d = signed_figure(z);
-    text(rt, key)?;
-    if d.minus {
-        text(rt, b"-")?;
+#[derive(Clone, Copy)]
+struct Figure(Shown);
+
+impl fmt::Display for Figure {
+    fn fmt<W: fmt::Write>(&self, f: &mut fmt::Formatter<W>) -> fmt::Result {
+        let sign = if self.0.minus { "-" } else { "" };
+        write!(f, "{sign}{}.{:04}", self.0.whole, self.0.units % 10000)
     }
-    number(rt, d.whole)?;
-    text(rt, b".")?;
-    digit(rt, d.units / 1000)?;
-    digit(rt, d.units / 100)?;
-    digit(rt, d.units / 10)?;
-    digit(rt, d.units)
 }
 
-// Whether a figure of grid units has the paper's sign and is within 0.01 of the paper's ten-thousandths.
+// Whether m grid units are within 0.01 of the paper's ten-thousandths.
+fn is_near(m: u64, paper: u64) -> bool {
+    let ours = u128::from(m) * 10000;
+    let theirs = u128::from(paper) * u128::from(Grid::UNITS_IN_ONE);
+    ours.abs_diff(theirs) <= 100 * u128::from(Grid::UNITS_IN_ONE)
+}
+
+// The same of a figure with a sign, which has to be the paper's.
 fn agrees(z: i64, paper: i64) -> bool {
-    if (z < 0) != (paper < 0) {
-        return false;
-    }
-    let ours = magnitude(z) % 4294967296 * 10000;
-    let theirs = magnitude(paper) % 4294967296 * Grid::UNITS_IN_ONE;
-    if ours < theirs {
-        theirs - ours <= 100 * Grid::UNITS_IN_ONE
-    } else {
-        ours - theirs <= 100 * Grid::UNITS_IN_ONE
-    }
+    z.is_negative() == paper.is_negative() && is_near(z.unsigned_abs(), paper.unsigned_abs())
 }
 
-fn verdict(rt: &impl Print, agreed: bool) -> io::Result<()> {
-    if agreed {
-        text(rt, b"  within 0.01\n")
-    } else {
-        text(rt, b"  DIFFERS\n")
-    }
+fn verdict(agreed: bool) -> &'static str {
+    if agreed { "within 0.01" } else { "DIFFERS" }
 }
 
 // Four figures, and whether each is the paper's to 0.01 and with its sign.
-pub(crate) fn figures(rt: &impl Print, d: Differences, paper: Paper) -> io::Result<()> {
-    let de = (d.DE % 4294967296) as i64;
-    figure(rt, b"  DL ", d.DL)?;
-    figure(rt, b"  DC ", d.DC)?;
-    figure(rt, b"  DH ", d.DH)?;
-    figure(rt, b"  DE ", de)?;
-    if agrees(d.DL, paper.DL) {
-        if agrees(d.DC, paper.DC) {
-            if agrees(d.DH, paper.DH) {
-                return verdict(rt, agrees(de, paper.DE));
-            }
-        }
-    }
-    verdict(rt, false)
+#[derive(Clone, Copy)]
+pub(crate) struct Figures {
+    pub differences: Differences,
+    pub paper: Paper,
 }
 
-// DE alone, and whether it is the paper's to 0.01.
-pub(crate) fn total(rt: &impl Print, d: Differences, paper: i64) -> io::Result<()> {
-    let de = (d.DE % 4294967296) as i64;
-    figure(rt, b"  DH ", d.DH)?;
-    figure(rt, b"  DE ", de)?;
-    verdict(rt, agrees(de, paper))
-}
-
-fn chroma(rt: &impl Print, name: Chroma) -> io::Result<()> {
-    match name {
-        Chroma::More => text(rt, b"  more chroma, "),
-        Chroma::Less => text(rt, b"  less chroma, "),
-        Chroma::Equal => text(rt, b"  equal in chroma, "),
+impl Figures {
+    fn agree(&self) -> bool {
+        let d = self.differences;
+        let paper = self.paper;
+        agrees(d.DL, paper.DL)
+            && agrees(d.DC, paper.DC)
+            && agrees(d.DH, paper.DH)
+            && is_near(d.DE, paper.DE)
     }
 }
 
-fn axis(rt: &impl Print, name: Axis) -> io::Result<()> {
-    match name {
-        Axis::Redder => text(rt, b"redder"),
-        Axis::Yellower => text(rt, b"yellower"),
-        Axis::Greener => text(rt, b"greener"),
-        Axis::Bluer => text(rt, b"bluer"),
+impl fmt::Display for Figures {
+    fn fmt<W: fmt::Write>(&self, f: &mut fmt::Formatter<W>) -> fmt::Result {
+        let d = self.differences;
+        let dl = Figure(signed_figure(d.DL));
+        let dc = Figure(signed_figure(d.DC));
+        let dh = Figure(signed_figure(d.DH));
+        let de = Figure(figure_of(false, d.DE));
+        write!(
+            f,
+            "DL {dl}  DC {dc}  DH {dh}  DE {de}  {}",
+            verdict(self.agree())
+        )
     }
 }
 
-fn hue(rt: &impl Print, name: Hue) -> io::Result<()> {
-    match name {
-        Hue::Equal => text(rt, b"equal in hue\n"),
-        Hue::Towards(first, next) => {
-            axis(rt, first)?;
-            text(rt, b"(")?;
-            axis(rt, next)?;
-            text(rt, b")\n")
-        }
+// DH and DE, and whether DE is the paper's to 0.01.
+#[derive(Clone, Copy)]
+pub(crate) struct Total {
+    pub differences: Differences,
+    pub paper: u64,
+}
+
+impl fmt::Display for Total {
+    fn fmt<W: fmt::Write>(&self, f: &mut fmt::Formatter<W>) -> fmt::Result {
+        let d = self.differences;
+        let dh = Figure(signed_figure(d.DH));
+        let de = Figure(figure_of(false, d.DE));
+        write!(
+            f,
+            "DH {dh}  DE {de}  {}",
+            verdict(is_near(d.DE, self.paper))
+        )
+    }
+}
+
+fn chroma_words(chroma: Chroma) -> &'static str {
+    match chroma {
+        Chroma::More => "more chroma",
+        Chroma::Less => "less chroma",
+        Chroma::Equal => "equal in chroma",
+    }
+}
+
+// As text: the words of a report are bytes.
+fn axis_word(axis: Axis) -> &'static str {
+    match axis {
+        Axis::Redder => "redder",
+        Axis::Yellower => "yellower",
+        Axis::Greener => "greener",
+        Axis::Bluer => "bluer",
     }
 }
 
 // The names of the shift in chroma and hue.
-pub(crate) fn words(rt: &impl Print, c: Chroma, h: Hue) -> io::Result<()> {
-    chroma(rt, c)?;
-    hue(rt, h)
+#[derive(Clone, Copy)]
+pub(crate) struct Words {
+    pub chroma: Chroma,
+    pub hue: Hue,
+}
+
+impl fmt::Display for Words {
+    fn fmt<W: fmt::Write>(&self, f: &mut fmt::Formatter<W>) -> fmt::Result {
+        let chroma = chroma_words(self.chroma);
+        match self.hue {
+            Hue::Equal => write!(f, "{chroma}, equal in hue"),
+            Hue::Towards(first, next) => {
+                write!(f, "{chroma}, {}({})", axis_word(first), axis_word(next))
+            }
+        }
+    }
+}
+
+// What was found, or that two readings were not both placed.
+#[derive(Clone, Copy)]
+pub(crate) struct OrRefused<T>(pub Option<T>);
+
+impl<T: fmt::Display> fmt::Display for OrRefused<T> {
+    fn fmt<W: fmt::Write>(&self, f: &mut fmt::Formatter<W>) -> fmt::Result {
+        match &self.0 {
+            Some(found) => write!(f, "{found}"),
+            None => f.write_str("REFUSED"),
+        }
+    }
 }

@@ -1,12 +1,11 @@
 -- docs/SCOPE.md 8.3: which numbers each call can give, whatever it is given. A ticket gives neither 5, since a decimal
 -- is always finite, nor 1 or 2, since it can name only what there is. Assumes nothing.
-use Rattle.std.specs.Prelude.{◌≡◌, refl, Bool, true, false, not, ◌||◌, List, [], ◌∷◌, ℕ, eqb, length}
-use Rattle.colour.specs.declared.placed.Reading.{Reading}
+use Rattle.std.specs.Prelude.{◌≡◌, refl, Bool, true, false, not, ◌||◌, List, [], ◌∷◌, ℕ, eqb, length, Ok, Err}
+use Rattle.colour.specs.Placed.{Reading}
 use Rattle.ticket.specs.Ticket.{ticket_of}
 use Rattle.report.specs.Write.{has_room}
 use Rattle.standard.proofs.Theorems.Refusals.Laws.{more, refusal_keeps}
-use Rattle.standard.specs.declared.judge.Outcome.{Outcome}
-use Rattle.standard.specs.declared.judge.Outcome.TheVariants.{Refused, Judged}
+use Rattle.standard.specs.Judgement.{Outcome}
 use Rattle.station.specs.Record.{decode}
 use Rattle.calls.specs.Outcome.{judged_by, ticket_outcome}
 use Rattle.calls.specs.Outcome.Each.{there_keeps, load_each, judge_each, ticket_each}
@@ -30,8 +29,8 @@ OfTicket n = OneOf n (0 ∷ 3 ∷ 4 ∷ 6 ∷ 7 ∷ 8 ∷ 10 ∷ [])
 
 room_keeps :
     (Q : ℕ → Type 0) → Q 0 → Q 10 → (o : Outcome) (room : List ℕ) (column : ℕ) → Q (room_fault o room column).number
-room_keeps Q zero ten (Refused n) room column = zero
-room_keeps Q zero ten (Judged j) room column = there_keeps Q zero (not (has_room room column j)) ten
+room_keeps Q zero ten (Err n) room column = zero
+room_keeps Q zero ten (Ok j) room column = there_keeps Q zero (not (has_room room column j)) ten
 
 -- a load gives 0 to 6, 8 or 10
 pub load_never_7_or_9 :

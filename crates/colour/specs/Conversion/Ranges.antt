@@ -3,18 +3,12 @@ use Rattle.std.specs.Prelude.{false, ◌≡◌, ℕ, ◌*◌, ◌^◌, ◌≤◌
 use Rattle.rounding.specs.Signed.{∣◌∣, minus}
 use Rattle.colour.specs.declared.white.TristimulusValues.{TristimulusValues}
 use Rattle.colour.specs.declared.conversion.GridColour.{GridColour}
-use Rattle.colour.specs.Conversion.{bs6923, f}
 
 -- X, Y or Z up to 150 against its white, in millionths: no white of Table 1 is below 94 or above 119
 pub record Against (x w : ℕ) : Type 0 where
   pub value : x ≤ 150000000
   pub low : 94000000 ≤ w
   pub high : w ≤ 119000000
-
--- Y against its white, with its f
-pub record Lit (y w fy : ℕ) : Type 0 where
-  pub reach : Against y w
-  pub is_f : fy ≡ f 20 bs6923 y w
 
 -- the three of a specimen against a white's
 pub record Measured (c white : TristimulusValues) : Type 0 where

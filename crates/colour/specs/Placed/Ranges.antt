@@ -1,8 +1,7 @@
 -- The range that placing X, Y, Z asks for. Assumes nothing.
-use Rattle.std.specs.Prelude.{◌≡◌, ◌≤◌, ℤ}
+use Rattle.std.specs.Prelude.{◌≡◌, ◌≤◌, ℤ, Ok}
 use Rattle.rounding.specs.Signed.{∣◌∣}
-use Rattle.reading.specs.declared.quantity.Units.{Units}
-use Rattle.reading.specs.declared.quantity.Units.TheVariants.{Of}
+use Rattle.reading.specs.Reading.{Units}
 
 -- three numbers of millionths, each at most 150
 pub record Millionths (x y z : ℤ) : Type 0 where
@@ -12,4 +11,4 @@ pub record Millionths (x y z : ℤ) : Type 0 where
 
 -- such are the units of three readings, where they have them
 pub record XyzWithin (u v w : Units) : Type 0 where
-  pub within : (x y z : ℤ) → u ≡ Of x → v ≡ Of y → w ≡ Of z → Millionths x y z
+  pub within : (x y z : ℤ) → u ≡ Ok x → v ≡ Ok y → w ≡ Ok z → Millionths x y z

@@ -1,6 +1,6 @@
 -- A reading of floats and one written in decimals that say the same are placed alike: docs/SCOPE.md 9.2, "The
 -- decimal's exact value is read by the same rounding as a float's". Assumes nothing.
-use Rattle.std.specs.Prelude.{◌≡◌, refl, false, pos, Float}
+use Rattle.std.specs.Prelude.{◌≡◌, refl, false, pos, Float, Err}
 use Rattle.std.specs.Float.{fin}
 use Rattle.std.specs.Float.Ieee.Exact.{HasValue}
 use Rattle.rounding.specs.Root.{root_of}
@@ -10,14 +10,13 @@ use Rattle.reading.specs.declared.decimal.Decimal.{Decimal}
 use Rattle.reading.specs.declared.quantity.Quantity.TheVariants.{Tristimulus, Lightness, Opponent}
 use Rattle.colour.specs.declared.white.White.{White}
 use Rattle.colour.specs.declared.white.White.TheVariants.{D65Ten, D65Two, CTen, CTwo}
-use Rattle.colour.specs.declared.placed.Placed.TheVariants.{Refused}
-use Rattle.colour.specs.declared.placed.Reading.{Reading}
-use Rattle.colour.specs.declared.placed.Reading.TheVariants as R
-use Rattle.colour.specs.declared.placed.Written.{Written}
-use Rattle.colour.specs.declared.placed.Written.TheVariants as W
+use Rattle.colour.specs.Placed.{Reading}
+use Rattle.colour.specs.declared.placed.Values.TheVariants.{Xyz, Lab}
+use Rattle.colour.specs.Placed.{Written}
 use Rattle.colour.specs.White.{white_of}
 use Rattle.colour.specs.Conversion.{above_cut, f_high, f_low, f, lightness, convert}
-use Rattle.colour.specs.Placed.{take, accepted, place, place_written}
+use Rattle.colour.specs.Placed.{take, accepted, place_by, place, place_written}
+use Rattle.colour.specs.declared.refusal.Refusal.TheVariants as Why
 
 -- against this white both come to the same colour of the grid, or to the same refusal
 abbrev pub PlacedAlike : White → Reading → Written → Type 0
@@ -33,14 +32,14 @@ SameValue x d = HasValue x d.below d.millionths 1000000
 pub data SaysTheSame : Reading → Written → Type 0 where
   xyz :
       {x y z : Float} {p q r : Decimal} → SameValue x p → SameValue y q → SameValue z r →
-      SaysTheSame (R.Xyz x y z) (W.Xyz p q r)
+      SaysTheSame (Xyz x y z) (Xyz p q r)
   lab :
       {l a b : Float} {p q r : Decimal} → SameValue l p → SameValue a q → SameValue b r →
-      SaysTheSame (R.Lab l a b) (W.Lab p q r)
+      SaysTheSame (Lab l a b) (Lab p q r)
 
 -- READINGS OF THE SAME VALUE ARE PLACED ALIKE, against every white
 pub same_value_same_place : {r : Reading} {d : Written} → SaysTheSame r d → (w : White) → PlacedAlike w r d
-unfolding place place_written
+unfolding place_by
 same_value_same_place (xyz {x} {y} {z} {p} {q} {r} hx hy hz) w =
     rw (float_as_decimal Tristimulus x p hx, float_as_decimal Tristimulus y q hy, float_as_decimal Tristimulus z r hz)
 same_value_same_place (lab {l} {a} {b} {p} {q} {r} hl ha hb) w =
@@ -50,18 +49,18 @@ same_value_same_place (lab {l} {a} {b} {p} {q} {r} hl ha hb) w =
 
 -- L* = 200
 abbrev pub out_of_range : Reading
-out_of_range = R.Lab (fin false 25 (pos 3)) (fin false 0 (pos 0)) (fin false 0 (pos 0))
+out_of_range = Lab (fin false 25 (pos 3)) (fin false 0 (pos 0)) (fin false 0 (pos 0))
 
-pub six_in_every_white : (w : White) → place w out_of_range ≡ Refused 6
-unfolding place take float_units
+pub six_in_every_white : (w : White) → place w out_of_range ≡ Err Why.OutOfRange
+unfolding place_by take float_units
 six_in_every_white w = refl
 
 -- X = 0, Y = 100, Z = 0
 abbrev pub beyond_the_grid : Reading
-beyond_the_grid = R.Xyz (fin false 0 (pos 0)) (fin false 25 (pos 2)) (fin false 0 (pos 0))
+beyond_the_grid = Xyz (fin false 0 (pos 0)) (fin false 25 (pos 2)) (fin false 0 (pos 0))
 
-pub eight_in_every_white : (w : White) → place w beyond_the_grid ≡ Refused 8
-unfolding place take accepted float_units root_of white_of above_cut f_high f_low f lightness convert
+pub eight_in_every_white : (w : White) → place w beyond_the_grid ≡ Err Why.Beyond256
+unfolding place_by take accepted float_units root_of white_of above_cut f_high f_low f lightness convert
 eight_in_every_white D65Ten = refl
 eight_in_every_white D65Two = refl
 eight_in_every_white CTen = refl

@@ -1,14 +1,14 @@
 -- What follows from `specs/Longest.antt`: no call's report is longer, and 161 bytes from the column on are enough room
 -- for every call that writes one. Assumes nothing.
-use Rattle.std.specs.Prelude.{◌≡◌, refl, List, ◌∷◌, ℕ, ◌+◌, ◌≤◌, ◌<◌, length}
+use Rattle.std.specs.Prelude.{◌≡◌, refl, List, ◌∷◌, ℕ, ◌+◌, ◌≤◌, ◌<◌, length, Ok, Err}
 use Rattle.std.proofs.Common.{sym, subst, arith, le-leb}
 use Rattle.colour.specs.Conversion.{at_places}
 use Rattle.colour.specs.declared.conversion.GridColour.{GridColour}
-use Rattle.colour.specs.declared.placed.Reading.{Reading}
+use Rattle.colour.specs.Placed.{Reading}
 use Rattle.sheet.specs.Sheet.{shift, differences, sheet, comparison}
 use Rattle.sheet.specs.declared.shift.Shift.{Shift}
 use Rattle.ticket.specs.Ticket.{ticket_of}
-use Rattle.ticket.specs.declared.lines.Parsed.{Parsed}
+use Rattle.ticket.specs.Ticket.{Parsed}
 use Rattle.report.specs.Report.{report_text}
 use Rattle.report.specs.Report.Longest.{Printable, report-length-le}
 use Rattle.report.specs.Write.{has_room}
@@ -18,8 +18,7 @@ use Rattle.standard.specs.Judgement.{judgement_of, Specimen}
 use Rattle.standard.proofs.Theorems.Judgement.Laws.{in_range}
 use Rattle.standard.specs.declared.accept.Standard.{Standard}
 use Rattle.standard.specs.declared.judge.Judgement.{Judgement}
-use Rattle.standard.specs.declared.judge.Outcome.{Outcome}
-use Rattle.standard.specs.declared.judge.Outcome.TheVariants.{Refused, Judged}
+use Rattle.standard.specs.Judgement.{Outcome}
 use Rattle.station.specs.Record.{decode}
 use Rattle.calls.specs.Outcome.{judged_by, ticket_outcome}
 use Rattle.calls.specs.Outcome.Each.{judge_each, ticket_each}
@@ -53,8 +52,8 @@ room_below_10 :
     (o : Outcome) → Short o → (room : List ℕ) (column : ℕ) → column + 161 ≤ length room →
     Below10 (room_fault o room column).number
 unfolding has_room
-room_below_10 (Refused n) short room column some = omega arith
-room_below_10 (Judged j) short room column some =
+room_below_10 (Err n) short room column some = omega arith
+room_below_10 (Ok j) short room column some =
     rw (le-leb (column + length (report_text j)) (length room) (omega (arith, short j refl))) (omega arith)
 
 refusal_below_10 :

@@ -1,6 +1,6 @@
 -- 161 bytes are reached: a report that has them all, by computing, and a call that is refused for want of room wherever
 -- there are fewer. Assumes nothing.
-use Rattle.std.specs.Prelude.{◌≡◌, refl, List, [], ◌∷◌, ℕ, ◌+◌, ◌^◌, ◌<◌, ℤ, pos, neg_ℤ, length}
+use Rattle.std.specs.Prelude.{◌≡◌, refl, List, [], ◌∷◌, ℕ, ◌+◌, ◌^◌, ◌<◌, ℤ, pos, neg_ℤ, length, Ok}
 use Rattle.std.proofs.Common.{sym, ◌∙◌, arith, rules}
 use Rattle.rounding.specs.Root.{root_of}
 use Rattle.rounding.specs.Signed.{◌·◌, ◌÷◌}
@@ -19,7 +19,6 @@ use Rattle.report.specs.Report.{setting_lines, figure_lines, word_lines, report_
 use Rattle.report.specs.Write.Laws.{write_number_ten}
 use Rattle.standard.specs.Judgement.{judgement_of, outcome, Specimen}
 use Rattle.standard.specs.declared.accept.Standard.{Standard}
-use Rattle.standard.specs.declared.judge.Outcome.TheVariants.{Judged}
 use Rattle.station.specs.Record.{encode, decode}
 use Rattle.station.specs.Record.Back.{decode-encode}
 use Rattle.calls.specs.Outcome.{judged_by}
@@ -73,7 +72,7 @@ reached = record { asked = search rules; written = refl; bytes = refl }
 -- ---- NO LESS ROOM IS ENOUGH: with this standard loaded, the test specimen is refused in every room of fewer bytes
 -- from the column on
 
-test-judged : judged_by (decode (encode standard)) (as_lab test) ≡ Judged (judgement_of standard test)
+test-judged : judged_by (decode (encode standard)) (as_lab test) ≡ Ok (judgement_of standard test)
 unfolding judged_by outcome
 test-judged = rw (decode-encode standard reached.asked.standard, place_back D65Ten test reached.asked.test)
 

@@ -6,7 +6,8 @@ use Rattle.rounding.specs.Root.{root_of}
 use Rattle.rounding.specs.Signed.{◌÷◌}
 use Rattle.reading.specs.Reading.{decimal_units}
 use Rattle.colour.specs.Conversion.{at_places}
-use Rattle.colour.specs.Placed.{take, place_written}
+use Rattle.colour.specs.Refusal.{refusal_numbered}
+use Rattle.colour.specs.Placed.{take, place_by}
 use Rattle.sheet.specs.Settings.{within}
 use Rattle.sheet.specs.Sheet.{chroma, cross, dot, same_hue, hue_change, semi_axis_l, semi_axis_c, component, component_h}
 use Rattle.sheet.specs.Sheet.{total, hue_semi_axis}
@@ -17,7 +18,7 @@ use Rattle.text.specs.Put.{joined, line}
 use Rattle.text.specs.Decimal.{shown, last_digits, width_in, decimal_text}
 use Rattle.text.specs.Bytes.{index_of, before, after, starts_with, same_bytes}
 use Rattle.text.specs.Number.{numeral, digits_of, fraction_of, decimal_of, signed_of}
-use Rattle.ticket.specs.Ticket.{named, in_space, reading_of, due, nothing_more}
+use Rattle.ticket.specs.Ticket.{named, reading_of, due, nothing_more}
 use Rattle.ticket.specs.Ticket.{test_line, ref_line, space_line, tol_line, c_line, factor_lines, white_line, ticket_of}
 use Rattle.report.specs.Report.{setting_lines, figure_lines, word_lines, report_text}
 use Rattle.standard.specs.Refusals.{number_at, first_of, refusal}
@@ -74,12 +75,12 @@ pub record PrintedCases : Type 0 where
   pub out_of_range : from3 "tol=1\nspace=LAB\nref=50 0 0\ntest=121 0 0\n" ≡ ascii "refused=6 line=0\n"
 
 pub printed_cases : PrintedCases
-unfolding root_of ◌÷◌ decimal_units at_places take place_written within
+unfolding root_of ◌÷◌ refusal_numbered decimal_units at_places take place_by within
     chroma cross dot same_hue hue_change semi_axis_l semi_axis_c component component_h total hue_semi_axis
     semi_axes_cmc semi_axes shift differences sheet compared verdict_on comparison achromatic
     line shown last_digits width_in decimal_text index_of before after starts_with same_bytes numeral digits_of fraction_of
     decimal_of signed_of
-    named in_space reading_of due nothing_more
+    named reading_of due nothing_more
     test_line ref_line space_line tol_line c_line factor_lines white_line ticket_of
     setting_lines figure_lines word_lines report_text
     number_at first_of refusal range_faults accept_faults acceptance judgement_of outcome ticket_outcome refusal_line

@@ -1,22 +1,22 @@
 -- What callers go by: what is printed by each way out of a text, and into a lent slice. Assumes nothing.
-use Rattle.std.specs.Prelude.{◌≡◌, Bool, true, false, cond, List, ℕ, ◌+◌, ◌-◌, ◌≤◌, ◌<◌, length, take}
+use Rattle.std.specs.Prelude.{◌≡◌, Bool, true, false, cond, List, ℕ, ◌+◌, ◌-◌, ◌≤◌, ◌<◌, length, take, Ok, Err}
 use Rattle.std.proofs.Math.Path.{refl, sym, ap}
 use Rattle.std.proofs.Common.{◌∙◌, subst, ⊎_elim, arith, zero-add, eq-zero-or-pos, le-leb, leb-true, length-append, length-take, take_all}
 use Rattle.std.proofs.lemmas.Bool.{lt-leb}
 use Rattle.std.proofs.Math.Dec.{leb}
+use Rattle.colour.specs.Refusal.{number_of_refusal}
+use Rattle.colour.specs.declared.refusal.Refusal.{Refusal}
 use Rattle.text.specs.Put.{put_at, Puts}
 use Rattle.text.proofs.Theorems.Put.Laws.{put-length}
 use Rattle.text.specs.Decimal.{whole_text}
 use Rattle.ticket.specs.Ticket.{ticket_of}
 use Rattle.ticket.specs.Ticket.Laws.{ticket_of_long}
 use Rattle.ticket.specs.declared.lines.Ticket.{Ticket}
-use Rattle.ticket.specs.declared.lines.Parsed.{Parsed}
-use Rattle.ticket.specs.declared.lines.Parsed.TheVariants.{Right, Wrong}
+use Rattle.ticket.specs.Ticket.{Parsed, wrong_line}
 use Rattle.report.specs.Report.{report_text}
 use Rattle.report.specs.Write.{has_room, Reported}
 use Rattle.standard.specs.declared.judge.Judgement.{Judgement}
-use Rattle.standard.specs.declared.judge.Outcome.{Outcome}
-use Rattle.standard.specs.declared.judge.Outcome.TheVariants.{Refused, Judged}
+use Rattle.standard.specs.Judgement.{Outcome}
 use Rattle.calls.specs.Outcome.{ticket_outcome}
 use Rattle.printing.specs.Printed.{refusal_line, line_of, printed_text, fits, Prints}
 
@@ -26,22 +26,23 @@ module _ (text : List ℕ) where
   -- by what it is parsed as, and what that comes to
   module _ {p : Parsed} {o : Outcome} (ep : p ≡ ticket_of text) (eo : o ≡ ticket_outcome p) where
     pub refusal-printed :
-        {number line : ℕ} → o ≡ Refused number → line ≡ line_of p → refusal_line number line ≡ printed_text text
+        {e : Refusal} {line : ℕ} → o ≡ Err e → line ≡ line_of p →
+        refusal_line (number_of_refusal e) line ≡ printed_text text
     unfolding printed_text
     refusal-printed h l = sym (rw (← ep, ← eo, h, ← l))
 
-    pub report-printed : {j : Judgement} → o ≡ Judged j → report_text j ≡ printed_text text
+    pub report-printed : {j : Judgement} → o ≡ Ok j → report_text j ≡ printed_text text
     unfolding printed_text
     report-printed h = sym (rw (← ep, ← eo, h))
 
   -- a wrong text names its line, and a right one that is refused line 0
-  pub printed-wrong : {line : ℕ} → ticket_of text ≡ Wrong line → printed_text text ≡ refusal_line 7 line
+  pub printed-wrong : {line : ℕ} → ticket_of text ≡ wrong_line line → printed_text text ≡ refusal_line 7 line
   unfolding ticket_outcome
   printed-wrong e = sym (refusal-printed (sym e) refl refl refl)
 
   pub printed-refused :
-      {t : Ticket} {n : ℕ} → ticket_of text ≡ Right t → ticket_outcome (Right t) ≡ Refused n →
-      printed_text text ≡ refusal_line n 0
+      {t : Ticket} {e : Refusal} → ticket_of text ≡ Ok t → ticket_outcome (Ok t) ≡ Err e →
+      printed_text text ≡ refusal_line (number_of_refusal e) 0
   printed-refused e h = sym (refusal-printed (sym e) refl h refl)
 
   printed-long : 4096 < length text → printed_text text ≡ refusal_line 7 0

@@ -1,6 +1,6 @@
 -- WHAT IS STORED IS READ BACK, and every slice that holds a standard is the one that storing it leaves: encoding and
 -- decoding undo each other. Assumes nothing.
-use Rattle.std.specs.Prelude.{◌≡◌, Bool, true, false, cond, ℕ, zero, suc, ◌+◌, ◌*◌, ◌/◌, ◌%◌, ◌^◌, ◌≤◌, ◌<◌, eqb, ℤ, length, get_or, drop}
+use Rattle.std.specs.Prelude.{◌≡◌, Bool, true, false, cond, ℕ, zero, suc, ◌+◌, ◌*◌, ◌/◌, ◌%◌, ◌^◌, ◌≤◌, ◌<◌, eqb, ℤ, length, get_or, drop, Result, Ok, Err, Some, None}
 use Rattle.std.proofs.Math.Path.{refl, sym, ap}
 use Rattle.std.proofs.Common.{ap₂, ◌∙◌, arith, eqb-true, drop_of_length-le, drop-cons}
 use mathlib.Core.List.{List, [], ◌∷◌, ◌++◌}
@@ -14,11 +14,8 @@ use Rattle.standard.specs.Acceptance.{settings_of, acceptance, Valid}
 use Rattle.standard.proofs.Theorems.Acceptance.Laws.{accepted_made, accepted-valid, valid-accepted}
 use Rattle.standard.proofs.Theorems.Acceptance.Numbers.{settings_back, settings-only}
 use Rattle.standard.specs.declared.accept.Standard.{Standard}
-use Rattle.standard.specs.declared.accept.SettingsOf.{SettingsOf}
-use Rattle.standard.specs.declared.accept.SettingsOf.TheVariants as S
-use Rattle.standard.specs.declared.accept.Acceptance.{Acceptance}
-use Rattle.standard.specs.declared.accept.Acceptance.TheVariants.{Refused, Accepted}
-use Rattle.station.specs.declared.Station.TheVariants.{Empty, Holds}
+use Rattle.colour.specs.declared.refusal.Refusal.{Refusal}
+use Rattle.standard.specs.Acceptance.{Acceptance}
 use Rattle.station.specs.Record.{le2, le4, two, four, twos_of, of_twos, record_of, encode, settings_in, colour_in}
 use Rattle.station.specs.Record.{placed, held_as, held_by, decode, zeros}
 use Rattle.station.specs.Record.Laws.{decode-held, placed_on_grid, placed_is, placed_at}
@@ -37,7 +34,7 @@ twos_bytes :
 twos_bytes z h n e = ap of_twos (four_bytes n (rw e (twos_of-lt z h)) ∙ e) ∙ of_twos_back z h
 
 module _ (s : Standard) (v : Valid s) where
-  settings_encoded : settings_in (encode s) ≡ S.Are s.settings
+  settings_encoded : settings_in (encode s) ≡ Ok s.settings
   unfolding encode record_of two
   settings_encoded =
       let by = s.settings in
@@ -56,7 +53,7 @@ module _ (s : Standard) (v : Valid s) where
       }
 
   -- a valid standard, stored, is read back as it was
-  pub decode-encode : decode (encode s) ≡ Holds s
+  pub decode-encode : decode (encode s) ≡ Some s
   decode-encode =
       sym (decode-held (encode s) (length-encode s))
       ∙ ap₂ held_by settings_encoded (ap placed colour_encoded ∙ placed_is (grid_on s.colour v.colour))
@@ -67,36 +64,36 @@ module _ (s : Standard) (v : Valid s) where
 -- its numbers are those of s, which is valid
 pub record Stands (xs : List ℕ) (s : Standard) : Type 0 where
   pub full : length xs ≡ 20
-  pub settings : settings_in xs ≡ S.Are s.settings
+  pub settings : settings_in xs ≡ Ok s.settings
   pub colour : colour_in xs ≡ s.colour
   pub valid : Valid s
 
 accepted-stands :
-    (xs : List ℕ) (by : Settings) {s : Standard} → length xs ≡ 20 → settings_in xs ≡ S.Are by →
-    acceptance by (placed (colour_in xs)) ≡ Accepted s → Stands xs s
+    (xs : List ℕ) (by : Settings) {s : Standard} → length xs ≡ 20 → settings_in xs ≡ Ok by →
+    acceptance by (placed (colour_in xs)) ≡ Ok s → Stands xs s
 accepted-stands xs by {s} n e h =
     let from = accepted_made by (placed (colour_in xs)) h in
     record {
       full = n;
-      settings = e ∙ ap S.Are (sym from.settings);
+      settings = e ∙ ap Ok (sym from.settings);
       colour = placed_at (colour_in xs) from.placed;
       valid = accepted-valid by (placed (colour_in xs)) (placed_on_grid (colour_in xs)) s h;
     }
 
-pub decode-stands : (xs : List ℕ) {s : Standard} → decode xs ≡ Holds s → Stands xs s
+pub decode-stands : (xs : List ℕ) {s : Standard} → decode xs ≡ Some s → Stands xs s
 unfolding decode
 decode-stands xs {s} = go (eqb (length xs) 20) refl (settings_in xs) refl
   where
-    of_held : (a : Acceptance) → held_as a ≡ Holds s → a ≡ Accepted s
-    of_held (Refused n) h = let no : ◌≡◌ {A = ℕ} 0 1 = cc in absurd (omega arith)
-    of_held (Accepted t) h = cc
+    of_held : (a : Acceptance) → held_as a ≡ Some s → a ≡ Ok s
+    of_held (Err n) h = let no : ◌≡◌ {A = ℕ} 0 1 = cc in absurd (omega arith)
+    of_held (Ok t) h = cc
 
     go :
-        (p : Bool) → eqb (length xs) 20 ≡ p → (q : SettingsOf) → settings_in xs ≡ q →
-        cond p (held_by q (placed (colour_in xs))) Empty ≡ Holds s → Stands xs s
+        (p : Bool) → eqb (length xs) 20 ≡ p → (q : Result Settings Refusal) → settings_in xs ≡ q →
+        cond p (held_by q (placed (colour_in xs))) None ≡ Some s → Stands xs s
     go false hp q hq h = let no : ◌≡◌ {A = ℕ} 0 1 = cc in absurd (omega arith)
-    go true hp (S.Refused n) hq h = let no : ◌≡◌ {A = ℕ} 0 1 = cc in absurd (omega arith)
-    go true hp (S.Are by) hq h =
+    go true hp (Err n) hq h = let no : ◌≡◌ {A = ℕ} 0 1 = cc in absurd (omega arith)
+    go true hp (Ok by) hq h =
         accepted-stands xs by (eqb-true _ 20 hp) hq (of_held (acceptance by (placed (colour_in xs))) h)
 
 -- ---- from bytes to a standard and back
@@ -125,7 +122,7 @@ module _ (xs : List ℕ) (bytes : (k : ℕ) → get_or xs k 0 < 256) where
       ∙ le4_back _ _ _ _ (bytes at) (bytes (at + 1)) (bytes (at + 2)) (bytes (at + 3))
 
   -- a slice of bytes that holds a standard holds just what storing it leaves
-  pub decode-only : {s : Standard} → decode xs ≡ Holds s → xs ≡ encode s
+  pub decode-only : {s : Standard} → decode xs ≡ Some s → xs ≡ encode s
   unfolding encode record_of
   decode-only {s} e =
       let h = decode-stands xs e in
@@ -142,7 +139,7 @@ module _ (xs : List ℕ) (bytes : (k : ℕ) → get_or xs k 0 < 256) where
 
 -- ---- a slice that the host has just cleared
 
-pub zeros-empty : decode zeros ≡ Empty
+pub zeros-empty : decode zeros ≡ None
 unfolding zeros decode settings_of formula_numbered
 zeros-empty = refl
 

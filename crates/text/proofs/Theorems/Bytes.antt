@@ -1,2 +1,3 @@
 -- Theorems on `specs/Bytes.antt`.
+pub mod Library
 pub mod Parts

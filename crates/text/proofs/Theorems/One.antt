@@ -1,17 +1,13 @@
 -- Any two outcomes that a contract of `text` admits on one input are equal: the result, and the bytes of the lent
 -- slice. A contract that is one equation is not listed. Assumes nothing.
-use Rattle.std.specs.Prelude.{◌≡◌, refl, List, ℕ, ◌+◌, ◌≤◌, length}
-use Rattle.std.proofs.Common.{ap, sym, ◌∙◌, arith}
+use Rattle.std.specs.Prelude.{◌≡◌, List, ℕ, ◌+◌, ◌≤◌, length, Option}
+use Rattle.std.proofs.Common.{sym, ◌∙◌}
+use Rattle.reading.specs.declared.decimal.Decimal.{Decimal}
 use Rattle.text.specs.Bytes.Laws.{Found}
-use Rattle.text.specs.Decimal.{whole_text, decimal_text}
 use Rattle.text.specs.Number.{thousandths_of, signed_of}
-use Rattle.text.specs.Number.Laws.{number_in, signed_in}
+use Rattle.text.specs.Decimal.{whole_text, decimal_text}
 use Rattle.text.specs.Put.{Puts}
 use Rattle.text.specs.declared.decimal.Shown.{Shown}
-use Rattle.text.specs.declared.number.NumberRead.{NumberRead}
-use Rattle.text.specs.declared.number.NumberRead.TheVariants as N
-use Rattle.text.specs.declared.number.SignedRead.{SignedRead}
-use Rattle.text.specs.declared.number.SignedRead.TheVariants as S
 
 -- ---- a text put into a lent slice: of `put`, and of every function that writes
 
@@ -54,23 +50,10 @@ found_one b s r q g h = g.first ∙ sym h.first
 
 -- ---- the number that a text says, or none
 
-number_in_lem : (r q : NumberRead) → number_in r ≡ number_in q → r ≡ q
-number_in_lem N.Nothing N.Nothing e = refl
-number_in_lem N.Nothing (N.Is y) e = let no : ◌≡◌ {A = ℕ} 0 1 = cc in absurd (omega arith)
-number_in_lem (N.Is x) N.Nothing e = let no : ◌≡◌ {A = ℕ} 0 1 = cc in absurd (omega arith)
-number_in_lem (N.Is x) (N.Is y) e = let is : x ≡ y = cc in ap N.Is is
-
 -- of `thousandths`
-pub thousandths_one :
-    (s : List ℕ) (r q : NumberRead) → number_in r ≡ thousandths_of s → number_in q ≡ thousandths_of s → r ≡ q
-thousandths_one s r q g h = number_in_lem r q (g ∙ sym h)
-
-signed_in_lem : (r q : SignedRead) → signed_in r ≡ signed_in q → r ≡ q
-signed_in_lem S.Nothing S.Nothing e = refl
-signed_in_lem S.Nothing (S.Is y) e = let no : ◌≡◌ {A = ℕ} 0 1 = cc in absurd (omega arith)
-signed_in_lem (S.Is x) S.Nothing e = let no : ◌≡◌ {A = ℕ} 0 1 = cc in absurd (omega arith)
-signed_in_lem (S.Is x) (S.Is y) e = let is : x ≡ y = cc in ap S.Is is
+pub thousandths_one : (s : List ℕ) (r q : Option ℕ) → r ≡ thousandths_of s → q ≡ thousandths_of s → r ≡ q
+thousandths_one s r q g h = g ∙ sym h
 
 -- of `signed`
-pub signed_one : (s : List ℕ) (r q : SignedRead) → signed_in r ≡ signed_of s → signed_in q ≡ signed_of s → r ≡ q
-signed_one s r q g h = signed_in_lem r q (g ∙ sym h)
+pub signed_one : (s : List ℕ) (r q : Option Decimal) → r ≡ signed_of s → q ≡ signed_of s → r ≡ q
+signed_one s r q g h = g ∙ sym h

@@ -62,6 +62,8 @@ module _ (key s : List ℕ) (i : ℕ) where
   unfolding starts_with
   starts_true h = rw (drop_of_length-le key {i = i} h)
 
+-- ---- a text that starts with a key
+
 and_right : (a : Bool) {b : Bool} → a && b ≡ true → b ≡ true
 and_right true e = e
 and_right false e = absurd (false≢true e)

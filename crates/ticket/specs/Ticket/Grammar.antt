@@ -2,16 +2,16 @@
 -- is right, which is the first wrong one, and which ticket a right text says. It does not follow the steps of a parser:
 -- `wrong_exactly` of Grammar/Wrong.antt and `right_exactly` of Grammar/Right.antt show that `ticket_of`, which the code
 -- computes, is exactly this. Definitions only. Assumes nothing.
-use Rattle.std.specs.Prelude.{ℕ, ◌≤◌, ◌<◌, ◌≡◌, true, cond, ◌⊎◌, List, [], ◌∷◌, ◌++◌, map, length}
-use Rattle.std.proofs.Math.Option.{none, some}
+use Rattle.std.specs.Prelude.{ℕ, ◌≤◌, ◌<◌, ◌≡◌, true, cond, ◌⊎◌, List, [], ◌∷◌, ◌++◌, map, length, None, Some}
 use Rattle.text.specs.Ascii.{ascii}
 use Rattle.text.specs.Lines.{Line, content, is_ended, lines_of, nth, starts_line}
 use Rattle.text.specs.Number.{thousandths_of, signed_of}
 use Rattle.text.specs.Put.{joined, line}
 use Rattle.reading.specs.declared.decimal.Decimal.{Decimal}
-use Rattle.colour.specs.declared.placed.Written.{Written}
-use Rattle.ticket.specs.Ticket.{formula_named, white_named, space_named, space_of, in_space, missing_l, missing_c}
-use Rattle.ticket.specs.declared.value.Space.{Space}
+use Rattle.colour.specs.Placed.{Written}
+use Rattle.ticket.specs.Ticket.{formula_named, white_named, space_named, space_of, missing_l, missing_c}
+use Rattle.colour.specs.Placed.{in_space}
+use Rattle.colour.specs.declared.placed.Space.{Space}
 use Rattle.ticket.specs.declared.lines.Ticket.{Ticket}
 
 -- ---- the places of a ticket's lines
@@ -52,19 +52,19 @@ pub record Reads (p : Space) (value : List ℕ) (r : Written) : Type 0 where
   pub x : Decimal
   pub y : Decimal
   pub z : Decimal
-  pub x_said : signed_of first ≡ some x
-  pub y_said : signed_of second ≡ some y
-  pub z_said : signed_of third ≡ some z
+  pub x_said : signed_of first ≡ Some x
+  pub y_said : signed_of second ≡ Some y
+  pub z_said : signed_of third ≡ Some z
   pub reading : r ≡ in_space p x y z
 
 -- in this place the value says what the ticket has there; the line space speaks of both readings
 abbrev pub Says : Ticket → Place → (value : List ℕ) → Type 0
-Says t formula value = formula_named value ≡ some t.settings.formula
-Says t white value = white_named value ≡ some t.settings.white
-Says t l value = thousandths_of value ≡ some t.settings.l
-Says t c value = thousandths_of value ≡ some t.settings.c
-Says t tol value = thousandths_of value ≡ some t.settings.tolerance
-Says t space value = space_named value ≡ some (space_of t.reference)
+Says t formula value = formula_named value ≡ Some t.settings.formula
+Says t white value = white_named value ≡ Some t.settings.white
+Says t l value = thousandths_of value ≡ Some t.settings.l
+Says t c value = thousandths_of value ≡ Some t.settings.c
+Says t tol value = thousandths_of value ≡ Some t.settings.tolerance
+Says t space value = space_named value ≡ Some (space_of t.reference)
 Says t ref value = Reads (space_of t.reference) value t.reference
 Says t test value = Reads (space_of t.reference) value t.test
 
@@ -81,8 +81,8 @@ pub record RightFor (p : Place) (x : Line) : Type 0 where
 -- line n, counted from 1, is there and right for its place; after the last place nothing follows
 pub data RightAt (n : ℕ) (s : List ℕ) : Type 0 where
   right-line :
-      {p : Place} {x : Line} → nth n (form_of s) ≡ some p → nth n (lines_of s) ≡ some x → RightFor p x → RightAt n s
-  nothing_follows : nth n (form_of s) ≡ none → nth n (lines_of s) ≡ none → RightAt n s
+      {p : Place} {x : Line} → nth n (form_of s) ≡ Some p → nth n (lines_of s) ≡ Some x → RightFor p x → RightAt n s
+  nothing_follows : nth n (form_of s) ≡ None → nth n (lines_of s) ≡ None → RightAt n s
 
 -- lines 1 to n - 1 are
 abbrev pub RightBefore : ℕ → List ℕ → Type 0

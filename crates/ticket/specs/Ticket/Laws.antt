@@ -1,52 +1,32 @@
 -- What callers go by of the lines of Ticket.antt. Assumes nothing.
-use Rattle.std.specs.Prelude.{ℕ, ◌-◌, ◌+◌, ◌≤◌, ◌<◌, ◌≡◌, refl, Bool, true, false, cond, ◌&&◌, List, [], ◌∷◌, length, take, drop}
-use Rattle.std.proofs.Math.Path.{sym}
+use Rattle.std.specs.Prelude.{ℕ, ◌-◌, ◌+◌, ◌≤◌, ◌<◌, ◌≡◌, refl, Bool, true, false, cond, ◌&&◌, List, [], ◌∷◌, length, take, drop, Option, None, Some, ok_or, Result, Ok, Err, IsErr, IsErrAnd, MatchResult}
+use Rattle.std.proofs.Math.Path.{sym, ap}
 use Rattle.std.proofs.Common.{◌∙◌, arith}
-use Rattle.std.proofs.Math.Option.{Option, none, some}
 use borrow.Author.Tests.{lt-ltb, le-ltb}
 use Rattle.text.specs.Ascii.{ascii}
 use Rattle.reading.specs.declared.decimal.Decimal.{Decimal}
-use Rattle.colour.specs.declared.placed.Written.{Written}
-use Rattle.colour.specs.declared.placed.Written.TheVariants.{Xyz as Written-as-Xyz, Lab as Written-as-Lab}
-use Rattle.colour.specs.declared.white.White.{White}
-use Rattle.sheet.specs.declared.formula.Formula.{Formula}
+use Rattle.colour.specs.declared.placed.Values.TheVariants.{Xyz as Written-as-Xyz, Lab as Written-as-Lab}
 use Rattle.sheet.specs.declared.settings.Settings.{Settings}
-use Rattle.ticket.specs.declared.value.Space.{Space}
-use Rattle.ticket.specs.declared.value.Space.TheVariants.{Xyz, Lab}
-use Rattle.ticket.specs.declared.value.FormulaRead.{FormulaRead}
-use Rattle.ticket.specs.declared.value.FormulaRead.TheVariants as F
-use Rattle.ticket.specs.declared.value.WhiteRead.{WhiteRead}
-use Rattle.ticket.specs.declared.value.WhiteRead.TheVariants as W
-use Rattle.ticket.specs.declared.value.SpaceRead.{SpaceRead}
-use Rattle.ticket.specs.declared.value.SpaceRead.TheVariants as S
-use Rattle.ticket.specs.declared.value.ReadingRead.{ReadingRead}
-use Rattle.ticket.specs.declared.value.ReadingRead.TheVariants as R
-use Rattle.ticket.specs.declared.lines.Parsed.{Parsed}
-use Rattle.ticket.specs.declared.lines.Parsed.TheVariants.{Right, Wrong}
+use Rattle.colour.specs.declared.placed.Space.{Space}
+use Rattle.colour.specs.declared.placed.Space.TheVariants.{Xyz, Lab}
 use Rattle.ticket.specs.declared.lines.Ticket.{Ticket}
+use Rattle.ticket.specs.declared.lines.WrongLine.{WrongLine}
 use Rattle.text.specs.Bytes.{index_of, has, before, after, starts_with, same_bytes}
 use Rattle.text.specs.Bytes.Laws.{Found, drop_is}
 use Rattle.text.specs.Number.{digits_of, decimal_of, thousandths_of, signed_of}
-use Rattle.ticket.specs.Ticket.{named, formula_named, white_named, space_named, in_space, three, reading_of, or_wrong}
-use Rattle.ticket.specs.Ticket.{due, nothing_more, tol_line, c_line, filled, factor_lines, white_line, ticket_of}
+use Rattle.ticket.specs.Ticket.{named, formula_named, white_named, space_named, three, reading_of, or_wrong}
+use Rattle.colour.specs.Placed.{in_space}
+use Rattle.ticket.specs.Ticket.{Parsed, wrong_line, due, nothing_more, tol_line, c_line, filled, factor_lines, white_line, ticket_of}
 
--- ---- what the code's answers say
+-- what was read of the lines that `whole` speaks of is what it goes on with, or their first wrong line is its own
+abbrev pub GoesOn : {A : Type 0} → (whole : Parsed) → Result A WrongLine → (next : A → Parsed) → Type 0
+GoesOn whole r next = MatchResult r (λ x. whole ≡ next x) (λ e. whole ≡ Err e)
 
-abbrev pub formula_in : FormulaRead → Option Formula
-formula_in F.Nothing = none
-formula_in (F.Is x) = some x
+-- ---- the line that is due
 
-abbrev pub white_in : WhiteRead → Option White
-white_in W.Nothing = none
-white_in (W.Is x) = some x
-
-abbrev pub space_in : SpaceRead → Option Space
-space_in S.Nothing = none
-space_in (S.Is x) = some x
-
-abbrev pub reading_in : ReadingRead → Option Written
-reading_in R.Nothing = none
-reading_in (R.Is x) = some x
+-- the first line of all, and what follows
+abbrev pub formula_line : ℕ → List ℕ → Parsed
+formula_line n = due n (ascii "formula=") formula_named (white_line (n + 1))
 
 -- the value of the first line, if it has the key and its LF
 unfoldable pub value_of : (key s : List ℕ) → List ℕ
@@ -62,21 +42,40 @@ module _ (key s : List ℕ) {i : ℕ} (f : Found 10 s i) where
     unfolding value_of
     value_nil_of_key e = rw (← f.first, lt-ltb _ _ h, ← el, e)
 
-    pub drop_key_value : starts_with key l ≡ true → take (length l - length key) (drop (length key) l) ≡ value_of key s
+    pub key_dropped : starts_with key l ≡ true → drop (length key) l ≡ value_of key s
     unfolding value_of
-    drop_key_value e = drop_is l (length key) ∙ rw (← f.first, lt-ltb _ _ h, ← el, e)
+    key_dropped e = rw (← f.first, lt-ltb _ _ h, ← el, e)
+
+    pub drop_key_value : starts_with key l ≡ true → take (length l - length key) (drop (length key) l) ≡ value_of key s
+    drop_key_value e = drop_is l (length key) ∙ key_dropped e
 
 -- ---- a line that is due, by what the code has of it: its value v, and the rest t of the text
 
 due-cond :
-    (b : Bool) {A : Type 0} (n : ℕ) (value : List ℕ → Option A) (next : A → Parsed) (l : List ℕ) → value [] ≡ none
-    → cond b (or_wrong n (value l) next) (Wrong n) ≡ or_wrong n (value (cond b l [])) next
+    (b : Bool) {A : Type 0} (n : ℕ) (value : List ℕ → Option A) (next : A → Parsed) (l : List ℕ) → value [] ≡ None
+    → cond b (or_wrong n (value l) next) (wrong_line n) ≡ or_wrong n (value (cond b l [])) next
 due-cond true n value next l e = refl
 due-cond false n value next l e = rw e
 
+wrong_of :
+    {A : Type 0} (o : Option A) (next : A → Parsed) {n : ℕ} {w x : WrongLine} {r : Result A WrongLine} → w.0 ≡ n →
+    r ≡ ok_or o w → r ≡ Err x → or_wrong n o next ≡ Err x
+wrong_of None next {w = w} {x = x} ew er h =
+    let same : w ≡ x = cc in
+    sym (ap wrong_line ew) ∙ ap Err same
+wrong_of (Some y) next ew er h = absurd (let z : ◌≡◌ {A = ℕ} 0 1 = cc in omega arith)
+
+right_of :
+    {A : Type 0} (n : ℕ) (w : WrongLine) (o : Option A) (next : A → Parsed) {x : A} {r : Result A WrongLine} →
+    r ≡ ok_or o w → r ≡ Ok x → or_wrong n o next ≡ next x
+right_of n w None next er h = absurd (let z : ◌≡◌ {A = ℕ} 0 1 = cc in omega arith)
+right_of n w (Some y) next {x = x} er h =
+    let same : y ≡ x = cc in
+    ap next same
+
 module _
     {A : Type 0} (n : ℕ) (key : List ℕ) (value : List ℕ → Option A) (next : A → List ℕ → Parsed) (s : List ℕ)
-    (e : value [] ≡ none) {v : List ℕ} (ev : v ≡ value_of key s) where
+    (e : value [] ≡ None) {v : List ℕ} (ev : v ≡ value_of key s) where
   due_value : due n key value next s ≡ or_wrong n (value v) (λ x. next x (after 10 s))
   unfolding due value_of
   due_value =
@@ -89,36 +88,50 @@ module _
       → q ≡ or_wrong n p (λ x. next x t) → q ≡ due n key value next s
   due-read eo ep et eq = eq ∙ sym (due_value ∙ rw (← eo, ep, ← et))
 
+  -- what the value says, or the line is wrong
+  module _ {o : Option A} (eo : o ≡ value v) {w : WrongLine} (ew : w.0 ≡ n) {r : Result A WrongLine} (er : r ≡ ok_or o w) where
+    pub due_err : {x : WrongLine} → r ≡ Err x → due n key value next s ≡ Err x
+    due_err h = due_value ∙ rw (← eo) (wrong_of o (λ x. next x (after 10 s)) ew er h)
+
+    pub due_ok : {x : A} → r ≡ Ok x → {t : List ℕ} → t ≡ after 10 s → due n key value next s ≡ next x t
+    due_ok h et = due_value ∙ rw (← eo, ← et) (right_of n w o (λ x. next x _) er h)
+
+-- an error that is handed on
+pub handed_on :
+    {A : Type 0} (r : Result A WrongLine) (e : WrongLine) → IsErr r × IsErrAnd r (λ d. d ≡ e) → r ≡ Err e
+handed_on (Ok x) e h = absurd h.1
+handed_on (Err d) e h = ap Err h.1
+
 -- an empty value says nothing
-pub formula_of_nil : formula_named [] ≡ none
+pub formula_of_nil : formula_named [] ≡ None
 unfolding named same_bytes
 formula_of_nil = refl
 
-pub white_of_nil : white_named [] ≡ none
+pub white_of_nil : white_named [] ≡ None
 unfolding named same_bytes
 white_of_nil = refl
 
-pub space_of_nil : space_named [] ≡ none
+pub space_of_nil : space_named [] ≡ None
 unfolding named same_bytes
 space_of_nil = refl
 
-pub thousandths_of_nil : thousandths_of [] ≡ none
+pub thousandths_of_nil : thousandths_of [] ≡ None
 unfolding decimal_of digits_of before index_of
 thousandths_of_nil = refl
 
-pub reading_of_nil : (space : Space) → reading_of space [] ≡ none
+pub reading_of_nil : (space : Space) → reading_of space [] ≡ None
 unfolding reading_of signed_of starts_with before index_of decimal_of digits_of
 reading_of_nil space = refl
 
 -- ---- a name, by what the code has of it: whether s is that of x
 
-pub named_none : {A : Type 0} (name : A → List ℕ) (s : List ℕ) → none ≡ named name [] s
+pub named_none : {A : Type 0} (name : A → List ℕ) (s : List ℕ) → None ≡ named name [] s
 unfolding named
 named_none name s = refl
 
 module _
     {A : Type 0} (name : A → List ℕ) (x : A) (xs : List A) (s : List ℕ) {b : Bool} (e : b ≡ same_bytes s (name x)) where
-  pub named_first : b ≡ true → some x ≡ named name (x ∷ xs) s
+  pub named_first : b ≡ true → Some x ≡ named name (x ∷ xs) s
   unfolding named
   named_first h = sym (rw (← e, h))
 
@@ -129,11 +142,9 @@ module _
 -- ---- a reading, by what the code has of it
 
 pub in_space_xyz : {p : Space} (x y z : Decimal) → p ≡ Xyz → Written-as-Xyz x y z ≡ in_space p x y z
-unfolding in_space
 in_space_xyz x y z e = rw e
 
 pub in_space_lab : {p : Space} (x y z : Decimal) → p ≡ Lab → Written-as-Lab x y z ≡ in_space p x y z
-unfolding in_space
 in_space_lab x y z e = rw e
 
 pub reading_is :
@@ -145,12 +156,12 @@ reading_is space s et eu ep ev eq ew er = sym (rw (← et, ← eu, ← ep, ← e
 
 -- ---- the text's ends
 
-pub more_right : (n : ℕ) (t : Ticket) (s : List ℕ) → length s ≡ 0 → Right t ≡ nothing_more n t s
+pub more_right : (n : ℕ) (t : Ticket) (s : List ℕ) → length s ≡ 0 → Ok t ≡ nothing_more n t s
 unfolding nothing_more
 more_right n t [] e = refl
 more_right n t (x ∷ s) e = absurd (omega arith)
 
-pub more_wrong : (n : ℕ) (t : Ticket) (s : List ℕ) → (length s ≡ 0 → ⊥) → Wrong n ≡ nothing_more n t s
+pub more_wrong : (n : ℕ) (t : Ticket) (s : List ℕ) → (length s ≡ 0 → ⊥) → wrong_line n ≡ nothing_more n t s
 unfolding nothing_more
 more_wrong n t [] e = absurd (e refl)
 more_wrong n t (x ∷ s) e = refl
@@ -167,7 +178,7 @@ module _ (n : ℕ) (p : Settings) (s : List ℕ) {b : Bool} (e : b ≡ starts_wi
   factors_given h = sym (rw (← e, h))
 
 module _ (s : List ℕ) where
-  pub ticket_of_long : 4096 < length s → Wrong 0 ≡ ticket_of s
+  pub ticket_of_long : 4096 < length s → wrong_line 0 ≡ ticket_of s
   unfolding ticket_of
   ticket_of_long h = rw (lt-ltb _ _ h)
 

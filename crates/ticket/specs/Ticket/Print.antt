@@ -6,8 +6,8 @@ use Rattle.text.specs.Decimal.{decimal_text, with_places}
 use Rattle.text.specs.Names.{formula_name, white_name}
 use Rattle.text.specs.Put.{joined}
 use Rattle.reading.specs.declared.decimal.Decimal.{Decimal}
-use Rattle.colour.specs.declared.placed.Written.{Written}
-use Rattle.colour.specs.declared.placed.Written.TheVariants as W
+use Rattle.colour.specs.Placed.{Written}
+use Rattle.colour.specs.declared.placed.Values.TheVariants as W
 use Rattle.ticket.specs.Ticket.{space_name, space_of}
 use Rattle.ticket.specs.Ticket.Grammar.{Place, all_places, without_l_and_c, text_of}
 use Rattle.ticket.specs.declared.lines.Ticket.{Ticket}

@@ -1,27 +1,27 @@
 -- One law for each way out of the calls. Assumes nothing.
-use Rattle.std.specs.Prelude.{◌≡◌, Bool, not, ℕ, eqb, length}
+use Rattle.std.specs.Prelude.{◌≡◌, Bool, not, ℕ, eqb, length, Ok, Err}
 use Rattle.std.proofs.Math.Path.{refl, sym, ap}
 use Rattle.std.proofs.Common.{◌∙◌, subst}
 use Rattle.std.proofs.Math.Bool.{true, false, cond}
 use mathlib.Core.List.{List, ◌∷◌}
 use borrow.Author.Tests.{eqb-false, ne_eqb}
-use Rattle.colour.specs.declared.placed.Reading.{Reading}
+use Rattle.colour.specs.Refusal.{number_of_refusal, refusal_of}
+use Rattle.colour.proofs.Theorems.Refusal.{number-some}
+use Rattle.colour.specs.declared.refusal.Refusal.{Refusal}
+use Rattle.colour.specs.Placed.{Reading}
 use Rattle.text.specs.Put.{put_at}
 use Rattle.ticket.specs.Ticket.{ticket_of}
-use Rattle.ticket.specs.declared.lines.Parsed.{Parsed}
+use Rattle.ticket.specs.Ticket.{Parsed}
 use Rattle.report.specs.Report.{report_text}
 use Rattle.report.specs.Write.{has_room}
 use Rattle.standard.specs.Refusals.{Fault, at_room, number_at, first, refusal}
 use Rattle.standard.proofs.Theorems.Refusals.Laws.{first_zero, first_some, refusal-room}
 use Rattle.standard.specs.Acceptance as Acceptance
 use Rattle.standard.specs.Acceptance.{settings_of}
-use Rattle.standard.specs.Judgement.{number_of}
 use Rattle.standard.specs.declared.accept.Standard.{Standard}
-use Rattle.standard.specs.declared.accept.Acceptance.{Acceptance}
-use Rattle.standard.specs.declared.accept.Acceptance.TheVariants as A
+use Rattle.standard.specs.Acceptance.{Acceptance}
 use Rattle.standard.specs.declared.judge.Judgement.{Judgement}
-use Rattle.standard.specs.declared.judge.Outcome.{Outcome}
-use Rattle.standard.specs.declared.judge.Outcome.TheVariants.{Refused, Judged}
+use Rattle.standard.specs.Judgement.{Outcome}
 use Rattle.station.specs.Record.{store_in, decode}
 use Rattle.station.specs.Record.Laws.{stays}
 use Rattle.station.specs.Runs.{left}
@@ -41,32 +41,33 @@ module _ (xs : List ℕ) (formula white l c tolerance : ℕ) (r : Reading) where
   -- the length's fault comes last
   number_is :
       refusal (length_fault xs ∷ load_faults formula white l c tolerance r)
-      ≡ first (Acceptance.number_of comes_to) (length_fault xs).number
+      ≡ first (refusal_of comes_to) (length_fault xs).number
   number_is =
       refusal-room _ _ (load-room l c tolerance r formula white)
       ∙ ap (λ (n : ℕ). first n (length_fault xs).number) (sym (load-number l c tolerance r formula white))
 
   module _ {a : Acceptance} (e : a ≡ comes_to) where
-    pub load-call-refused : {n : ℕ} → a ≡ A.Refused n → Gives (load_call xs formula white l c tolerance r) n xs
+    pub load-call-refused :
+        {w : Refusal} → a ≡ Err w → Gives (load_call xs formula white l c tolerance r) (number_of_refusal w) xs
     unfolding load_call
-    load-call-refused {n} h =
-        let told : comes_to ≡ A.Refused n = sym e ∙ h in
-        let some : n ≡ 0 → ⊥ = load_some formula white l c tolerance r told in
-        let is : refusal (length_fault xs ∷ load_faults formula white l c tolerance r) ≡ n =
-        number_is ∙ ap (λ (b : Acceptance). first (Acceptance.number_of b) (length_fault xs).number) told
+    load-call-refused {w} h =
+        let told : comes_to ≡ Err w = sym e ∙ h in
+        let some : number_of_refusal w ≡ 0 → ⊥ = number-some w in
+        let is : refusal (length_fault xs ∷ load_faults formula white l c tolerance r) ≡ number_of_refusal w =
+        number_is ∙ ap (λ (b : Acceptance). first (refusal_of b) (length_fault xs).number) told
         ∙ first_some _ some in
-        record { number = sym is; bytes = rw (is, ne_eqb n 0 some) }
+        record { number = sym is; bytes = rw (is, ne_eqb (number_of_refusal w) 0 some) }
 
     module _
-        {s : Standard} (h : a ≡ A.Accepted s) {b : Bool} (f : b ≡ eqb (length xs) 20)
+        {s : Standard} (h : a ≡ Ok s) {b : Bool} (f : b ≡ eqb (length xs) 20)
         {ys : List ℕ} (g : ys ≡ store_in s xs)
       where
-        told : comes_to ≡ A.Accepted s
+        told : comes_to ≡ Ok s
         told = sym e ∙ h
 
         by_length : refusal (length_fault xs ∷ load_faults formula white l c tolerance r) ≡ cond (not b) 10 0
         by_length =
-            number_is ∙ ap (λ (k : Acceptance). first (Acceptance.number_of k) (length_fault xs).number) told ∙ rw (← f)
+            number_is ∙ ap (λ (k : Acceptance). first (refusal_of k) (length_fault xs).number) told ∙ rw (← f)
 
         pub load-call-stored : b ≡ true → Gives (load_call xs formula white l c tolerance r) 0 ys
         unfolding load_call
@@ -87,23 +88,25 @@ module _ (xs : List ℕ) (formula white l c tolerance : ℕ) (r : Reading) where
       go :
           (a : Acceptance) → a ≡ comes_to → (b : Bool) → b ≡ eqb (length xs) 20 →
           (load_call xs formula white l c tolerance r).bytes ≡ left xs a
-      go (A.Refused n) e b f = sym (load-call-refused e refl).bytes
-      go (A.Accepted s) e true f = sym (load-call-stored e refl f refl refl).bytes
-      go (A.Accepted s) e false f = sym (load-call-other e refl f refl refl).bytes
+      go (Err n) e b f = sym (load-call-refused e refl).bytes
+      go (Ok s) e true f = sym (load-call-stored e refl f refl refl).bytes
+      go (Ok s) e false f = sym (load-call-other e refl f refl refl).bytes
 
 -- ---- a report
 
 module _ (room : List ℕ) (column : ℕ) {o : Outcome} where
-  pub reported-refused : {n : ℕ} → o ≡ Refused n → Gives (reported o room column) n room
+  pub reported-refused : {e : Refusal} → o ≡ Err e → Gives (reported o room column) (number_of_refusal e) room
   unfolding reported
-  reported-refused {n} h = rw h (record { number = sym (first_zero n); bytes = go (eqb (first n 0) 0) })
+  reported-refused {e} h =
+      let n = number_of_refusal e in
+      rw h (record { number = sym (first_zero n); bytes = go (eqb (first n 0) 0) })
     where
       go : (b : Bool) → room ≡ cond b room room
       go true = refl
       go false = refl
 
   pub reported-judged :
-      {j : Judgement} {n : ℕ} {ys : List ℕ} → o ≡ Judged j → n ≡ cond (has_room room column j) 0 10 →
+      {j : Judgement} {n : ℕ} {ys : List ℕ} → o ≡ Ok j → n ≡ cond (has_room room column j) 0 10 →
       ys ≡ cond (has_room room column j) (put_at room column (report_text j)) room →
       Gives (reported o room column) n ys
   unfolding reported
@@ -119,7 +122,7 @@ module _ (room : List ℕ) (column : ℕ) {o : Outcome} where
 
 module _ (fs : List Fault) (o : Outcome) (room : List ℕ) (column : ℕ) where
   pub reported_is :
-      number_of o ≡ refusal fs → number_at fs at_room ≡ 0 →
+      refusal_of o ≡ refusal fs → number_at fs at_room ≡ 0 →
       reported o room column ≡ writing (refusal (room_fault o room column ∷ fs)) (with_report o room column) room
   unfolding reported
   reported_is number none =

@@ -2,7 +2,7 @@
 -- The calls that are not listed, `ticket_outcome`, `line_of` and those that hand figures back, are under one equation.
 -- Assumes nothing.
 use Rattle.std.specs.Prelude.{List, ℕ}
-use Rattle.colour.specs.declared.placed.Reading.{Reading}
+use Rattle.colour.specs.Placed.{Reading}
 use Rattle.calls.specs.Calls.{AdmitsOne, gives_one, load_call, judge_call, ticket_call}
 
 -- of `load_call`

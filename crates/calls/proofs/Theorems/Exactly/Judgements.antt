@@ -1,21 +1,19 @@
 -- The number of a judgement is that of the first of its rules that holds, and so its rows are true. Assumes nothing.
 use Rattle.std.proofs.Math.Path.{◌≡◌, refl, sym, ap}
 use Rattle.std.proofs.Common.{subst, ◌∙◌}
-use Rattle.std.specs.Prelude.{false, List, [], ◌∷◌, ◌++◌, ◌↔◌, ℕ, eqb}
+use Rattle.std.specs.Prelude.{false, List, [], ◌∷◌, ◌++◌, ◌↔◌, ℕ, eqb, Option, Some, None}
+use Rattle.colour.specs.Refusal.{refusal_of}
 use native.Mathlib.Omega.{arith}
 use Rattle.colour.specs.Placed.Exactly.{NotFinite, OutOfRange, Beyond}
 use Rattle.colour.proofs.Theorems.Placed.Exactly.Ways.{read}
-use Rattle.colour.specs.declared.placed.Reading.{Reading}
+use Rattle.colour.specs.Placed.{Reading}
 use Rattle.standard.specs.Refusals.{first}
 use Rattle.standard.proofs.Theorems.Refusals.Laws.{refusal-room, refusal_keeps}
-use Rattle.standard.specs.Judgement.{number_of}
 use Rattle.standard.proofs.Theorems.Judgement.Laws.{outcome-number}
 use Rattle.standard.specs.declared.accept.Standard.{Standard}
 use Rattle.station.specs.Record.{decode}
 use Rattle.station.specs.Record.Exactly.{NoStandard}
 use Rattle.station.specs.Record.Exactly.Laws.{no_standard}
-use Rattle.station.specs.declared.Station.{Station}
-use Rattle.station.specs.declared.Station.TheVariants.{Empty, Holds}
 use Rattle.calls.specs.Outcome.{judged_by, judge_faults}
 use Rattle.calls.specs.Outcome.Each.{judge_each}
 use Rattle.calls.proofs.Theorems.Outcome.Judge.{judge-number, judge-room}
@@ -33,23 +31,23 @@ module _ (xs : List ℕ) (r : Reading) where
   abbrev judge_rules : List Rule
   judge_rules = rule 9 (NoStandard xs) ∷ rule 5 (NotFinite r) ∷ rule 6 (OutOfRange r) ∷ rule 8 (BeyondHeld xs r) ∷ []
 
-  in_held : {s : Standard} → decode xs ≡ Holds s → Beyond s.settings.white r ↔ BeyondHeld xs r
+  in_held : {s : Standard} → decode xs ≡ Some s → Beyond s.settings.white r ↔ BeyondHeld xs r
   in_held {s} e =
       (λ b. (s, e, b), λ h. subst (λ (q : Standard). Beyond q.settings.white r) (held_is (sym h.1 ∙ e)) h.2)
     where
-      held_is : {p q : Standard} → Holds p ≡ Holds q → p ≡ q
+      held_is : {p q : Standard} → Some p ≡ Some q → p ≡ q
       held_is e = cc
 
-  judge_first : First judge_rules (number_of (judged_by (decode xs) r))
+  judge_first : First judge_rules (refusal_of (judged_by (decode xs) r))
   unfolding judged_by
   judge_first = go (decode xs) refl
     where
-      held_not : {s : Standard} → Holds s ≡ Empty → ⊥
+      held_not : {s : Standard} → Some s ≡ None → ⊥
       held_not e = let no : ◌≡◌ {A = ℕ} 0 1 = cc in omega arith
 
-      go : (q : Station) → decode xs ≡ q → First judge_rules (number_of (judged_by q r))
-      go Empty e = here ((no_standard xs).0 e)
-      go (Holds s) e =
+      go : (q : Option Standard) → decode xs ≡ q → First judge_rules (refusal_of (judged_by q r))
+      go None e = here ((no_standard xs).0 e)
+      go (Some s) e =
           later (λ h. held_not (sym e ∙ (no_standard xs).1 h))
           (first_same (more same (more same (more (in_held e) Same.none)))
           (subst (First (rule 5 (NotFinite r) ∷ rule 6 (OutOfRange r) ∷ rule 8 (Beyond s.settings.white r) ∷ []))
@@ -61,7 +59,7 @@ module _ (xs : List ℕ) (r : Reading) where
   judge-rows is = record { is_9 = is 9 refl refl; is_5 = is 5 refl refl; is_6 = is 6 refl refl; is_8 = is 8 refl refl }
 
   -- EACH NUMBER OF A JUDGEMENT EXACTLY THEN, by value
-  pub judge_by_value : JudgeByValue (number_of (judged_by (decode xs) r)) xs r
+  pub judge_by_value : JudgeByValue (refusal_of (judged_by (decode xs) r)) xs r
   judge_by_value =
       record {
         one_of =
@@ -77,7 +75,7 @@ module _ (xs : List ℕ) (r : Reading) where
     short = rule 10 (RoomShort (judged_by (decode xs) r) room column) ∷ []
 
     judge-call-number :
-        first (number_of (judged_by (decode xs) r)) (room_fault (judged_by (decode xs) r) room column).number
+        first (refusal_of (judged_by (decode xs) r)) (room_fault (judged_by (decode xs) r) room column).number
         ≡ (judge_call xs r room column).number
     unfolding judge_call
     judge-call-number =

@@ -1,18 +1,19 @@
 -- The number of a load is that of the first of its rules that holds, and so its rows are true. Assumes nothing.
-use Rattle.std.specs.Prelude.{◌≡◌, refl, Bool, true, false, not, cond, List, [], ◌∷◌, ◌++◌, ◌↔◌, ℕ, eqb, length}
+use Rattle.std.specs.Prelude.{◌≡◌, refl, Bool, true, false, not, cond, List, [], ◌∷◌, ◌++◌, ◌↔◌, ℕ, eqb, length, Result, Some}
 use Rattle.std.proofs.Math.Path.{sym, ap}
 use Rattle.std.proofs.Common.{subst, ◌∙◌, eqb-true}
 use Rattle.std.proofs.lemmas.Bool.{eqb-false}
+use Rattle.colour.specs.Refusal.{refusal_of}
 use Rattle.colour.specs.Placed.Exactly.{NotFinite, OutOfRange, Beyond}
 use Rattle.colour.proofs.Theorems.Placed.Exactly.Ways.{read}
 use Rattle.colour.specs.White.{white_numbered}
-use Rattle.colour.specs.declared.placed.Reading.{Reading}
+use Rattle.colour.specs.Placed.{Reading}
 use Rattle.colour.specs.declared.white.White.{White}
-use Rattle.colour.specs.declared.white.Numbered.TheVariants.{Is}
 use Rattle.standard.specs.Refusals.{first}
 use Rattle.standard.proofs.Theorems.Refusals.Laws.{refusal-room, refusal_keeps}
-use Rattle.standard.specs.Acceptance.{settings_of, number_of}
-use Rattle.standard.specs.declared.accept.SettingsOf.{SettingsOf}
+use Rattle.standard.specs.Acceptance.{settings_of}
+use Rattle.sheet.specs.declared.settings.Settings.{Settings}
+use Rattle.colour.specs.declared.refusal.Refusal.{Refusal}
 use Rattle.station.specs.Record.Exactly.{NoFormula, NoWhite, FactorsOut, ToleranceOut}
 use Rattle.station.specs.Record.Exactly.Accepting.{Named, no_formula_lem, no_white_lem, are, names, accepting}
 use Rattle.calls.specs.Outcome.{loaded}
@@ -34,10 +35,10 @@ module _ (formula white l c tolerance : ℕ) (r : Reading) where
       rule 1 (NoFormula formula) ∷ rule 2 (NoWhite white) ∷ rule 3 (FactorsOut l c) ∷ rule 4 (ToleranceOut tolerance)
       ∷ rule 5 (NotFinite r) ∷ rule 6 (OutOfRange r) ∷ rule 8 (BeyondIn white r) ∷ []
 
-  in_white : {w : White} → white_numbered white ≡ Is w → Beyond w r ↔ BeyondIn white r
+  in_white : {w : White} → white_numbered white ≡ Some w → Beyond w r ↔ BeyondIn white r
   in_white {w} e = (λ b. (w, e, b), λ h. subst (λ (v : White). Beyond v r) (cc h.1) h.2)
 
-  named_first : {q : SettingsOf} → Named formula white l c tolerance q → First load_rules (number_of (loaded q r))
+  named_first : {q : Result Settings Refusal} → Named formula white l c tolerance q → First load_rules (refusal_of (loaded q r))
   unfolding loaded
   named_first (no_formula_lem h) = here h
   named_first (no_white_lem f h) = later f (here h)
@@ -46,7 +47,7 @@ module _ (formula white l c tolerance : ℕ) (r : Reading) where
       (first_same (more same (more same (more same (more same (more (in_white e) Same.none)))))
       (accept_first (accepting _ _) (reading_first (read w r)))))
 
-  load_first : First load_rules (number_of (loaded (settings_of formula white l c tolerance) r))
+  load_first : First load_rules (refusal_of (loaded (settings_of formula white l c tolerance) r))
   load_first = named_first (names formula white l c tolerance)
 
   load-rows :
@@ -65,7 +66,7 @@ module _ (formula white l c tolerance : ℕ) (r : Reading) where
 
   -- EACH NUMBER OF A LOAD EXACTLY THEN, by value
   pub load_by_value :
-      LoadByValue (number_of (loaded (settings_of formula white l c tolerance) r)) formula white l c tolerance r
+      LoadByValue (refusal_of (loaded (settings_of formula white l c tolerance) r)) formula white l c tolerance r
   load_by_value =
       record {
         one_of =
@@ -93,7 +94,7 @@ module _ (formula white l c tolerance : ℕ) (r : Reading) where
         go false e = absurd (f (eqb-false _ 20 e))
 
     load-call-number :
-        first (number_of (loaded (settings_of formula white l c tolerance) r)) (length_fault xs).number
+        first (refusal_of (loaded (settings_of formula white l c tolerance) r)) (length_fault xs).number
         ≡ (load_call xs formula white l c tolerance r).number
     unfolding load_call
     load-call-number =

@@ -1,18 +1,15 @@
 -- docs/SCOPE.md 8.4: a refused call answers its number with every figure 0.0 and no name, and leaves the lent slice as
 -- it stood. Assumes nothing.
-use Rattle.std.specs.Prelude.{◌≡◌, refl, cond, List, [], ◌∷◌, ℕ}
+use Rattle.std.specs.Prelude.{◌≡◌, refl, cond, List, [], ◌∷◌, ℕ, Ok, Err, None}
 use Rattle.std.proofs.Common.{ap, ◌∙◌, ne_eqb}
-use Rattle.colour.specs.declared.placed.Reading.{Reading}
+use Rattle.colour.specs.Refusal.{refusal_of}
+use Rattle.colour.specs.Placed.{Reading}
 use Rattle.standard.specs.Acceptance as Acceptance
-use Rattle.standard.specs.Judgement.{number_of}
 use Rattle.standard.specs.Figures.{no_reference, reference_answer, no_specimen, specimen_answer}
-use Rattle.standard.specs.declared.accept.Acceptance.{Acceptance}
-use Rattle.standard.specs.declared.accept.Acceptance.TheVariants as A
-use Rattle.standard.specs.declared.judge.Outcome.{Outcome}
-use Rattle.standard.specs.declared.judge.Outcome.TheVariants as O
+use Rattle.standard.specs.Acceptance.{Acceptance}
+use Rattle.standard.specs.Judgement.{Outcome}
 use Rattle.standard.specs.declared.figures.ReferenceAnswer.{ReferenceAnswer}
 use Rattle.standard.specs.declared.figures.SpecimenAnswer.{SpecimenAnswer}
-use Rattle.standard.specs.declared.figures.Named.TheVariants.{Nothing}
 use Rattle.calls.specs.Calls.{Answer, Gives, writing, load_call, judge_call, ticket_call}
 use Rattle.calls.specs.Runs.{Call, load, judge, ticket, slice_after}
 
@@ -20,19 +17,19 @@ use Rattle.calls.specs.Runs.{Call, load, judge, ticket, slice_after}
 
 -- what holds of a load's number holds of the answer's, and with any but 0 the figures are 0.0
 pub reference-answers :
-    (Q : ℕ → Type 0) (x : Acceptance) {a : ReferenceAnswer} → a ≡ reference_answer x → Q (Acceptance.number_of x) →
+    (Q : ℕ → Type 0) (x : Acceptance) {a : ReferenceAnswer} → a ≡ reference_answer x → Q (refusal_of x) →
     Q a.number × (¬ (a.number ≡ 0) → a.figures ≡ no_reference)
 unfolding reference_answer
-reference-answers Q (A.Refused n) e q = rw e (q, λ some. refl)
-reference-answers Q (A.Accepted s) e q = rw e (q, λ some. absurd (some refl))
+reference-answers Q (Err n) e q = rw e (q, λ some. refl)
+reference-answers Q (Ok s) e q = rw e (q, λ some. absurd (some refl))
 
 -- and of a judgement or a ticket, with no name
 pub specimen-answers :
-    (Q : ℕ → Type 0) (o : Outcome) {a : SpecimenAnswer} → a ≡ specimen_answer o → Q (number_of o) →
-    Q a.number × (¬ (a.number ≡ 0) → (a.figures ≡ no_specimen) × (a.names ≡ Nothing))
+    (Q : ℕ → Type 0) (o : Outcome) {a : SpecimenAnswer} → a ≡ specimen_answer o → Q (refusal_of o) →
+    Q a.number × (¬ (a.number ≡ 0) → (a.figures ≡ no_specimen) × (a.names ≡ None))
 unfolding specimen_answer
-specimen-answers Q (O.Refused n) e q = rw e (q, λ some. (refl, refl))
-specimen-answers Q (O.Judged j) e q = rw e (q, λ some. absurd (some refl))
+specimen-answers Q (Err n) e q = rw e (q, λ some. (refl, refl))
+specimen-answers Q (Ok j) e q = rw e (q, λ some. absurd (some refl))
 
 -- ---- as a call
 

@@ -1,15 +1,17 @@
 -- The number of a sort is that of the first of its rules that holds, and so its rows are true; and which cone it names.
 -- Assumes nothing.
-use Rattle.std.specs.Prelude.{◌≡◌, refl, Bool, true, false, List, [], ◌∷◌, ◌↔◌, ◌⊎◌, ℕ, leb, eqb, Float, length}
+use Rattle.std.specs.Prelude.{◌≡◌, refl, Bool, true, false, List, [], ◌∷◌, ◌↔◌, ◌⊎◌, ℕ, leb, eqb, Float, length, Option, Some, None}
 use Rattle.std.proofs.Common.{sym, ap, subst, ◌∙◌, true≢false, inl, inr, ⊎_elim, not-le_of_lt, arith, leb-true, leb-false, eqb-true}
 use Rattle.std.proofs.lemmas.Bool.{eqb-false}
+use Rattle.colour.specs.Refusal.{number_of_refusal}
+use Rattle.colour.specs.declared.refusal.Refusal.{Refusal}
+use Rattle.colour.specs.declared.refusal.Refusal.TheVariants as Why
+use Rattle.colour.proofs.Theorems.Refusal.{number-only}
 use Rattle.colour.specs.Placed.Exactly.{NotFinite}
 use Rattle.colour.specs.White.{white_numbered}
 use Rattle.colour.specs.declared.conversion.GridColour.{GridColour}
-use Rattle.colour.specs.declared.placed.Reading.{Reading}
+use Rattle.colour.specs.Placed.{Reading}
 use Rattle.colour.specs.declared.white.White.{White}
-use Rattle.colour.specs.declared.white.Numbered.{Numbered}
-use Rattle.colour.specs.declared.white.Numbered.TheVariants as W
 use Rattle.sheet.specs.Settings.{within, is_factor}
 use Rattle.sheet.proofs.Theorems.Settings.Laws.{within_true, within_in}
 use Rattle.cones.specs.InTurn.{Turns, whole, refused, number_of, index_of}
@@ -68,17 +70,17 @@ module _ (xs ys zs : List Float) (room : ℕ) where
 
 -- ---- 2
 
-unknown-white : (white : ℕ) → white_numbered white ≡ W.Unknown → NoWhite white
+unknown-white : (white : ℕ) → white_numbered white ≡ None → NoWhite white
 unknown-white white e = go (whites white) e
   where
-    go : {v : Numbered} → Whites white v → v ≡ W.Unknown → NoWhite white
+    go : {v : Option White} → Whites white v → v ≡ None → NoWhite white
     go (white_none n) h = n
     go (white_one n w) h = let no : ◌≡◌ {A = ℕ} 0 1 = cc in absurd (omega arith)
 
-known_white : (white : ℕ) {w : White} → white_numbered white ≡ W.Is w → ¬ (NoWhite white)
+known_white : (white : ℕ) {w : White} → white_numbered white ≡ Some w → ¬ (NoWhite white)
 known_white white {w} e = go (whites white) e
   where
-    go : {v : Numbered} → Whites white v → v ≡ W.Is w → ¬ (NoWhite white)
+    go : {v : Option White} → Whites white v → v ≡ Some w → ¬ (NoWhite white)
     go (white_none n) h = let no : ◌≡◌ {A = ℕ} 0 1 = cc in absurd (omega arith)
     go (white_one n u) h = n
 
@@ -100,44 +102,46 @@ factors_in l c h out =
 -- ---- 5, 6, 8 of the first refused cone
 
 module _ (w : White) (rs : List Reading) where
-  abbrev Some : (Reading → Type 0) → Type 0
-  Some A = (i : ℕ) × FirstBy w A rs i
+  abbrev SomeCone : (Reading → Type 0) → Type 0
+  SomeCone A = (i : ℕ) × FirstBy w A rs i
 
   -- a delivery is refused with one number, or whole
-  one_number : {n i m j : ℕ} → cones_in w rs ≡ refused n i → cones_in w rs ≡ refused m j → n ≡ m
+  one_number : {n m : Refusal} {i j : ℕ} → cones_in w rs ≡ refused n i → cones_in w rs ≡ refused m j → n ≡ m
   one_number e f = cc
 
-  not_whole : {cs : List GridColour} {m j : ℕ} → cones_in w rs ≡ whole cs → cones_in w rs ≡ refused m j → ⊥
+  not_whole : {cs : List GridColour} {m : Refusal} {j : ℕ} → cones_in w rs ≡ whole cs → cones_in w rs ≡ refused m j → ⊥
   not_whole e f = let no : ◌≡◌ {A = ℕ} 0 1 = cc in omega arith
 
   abbrev cone_rules : List Rule
-  cone_rules = rule 5 (Some NotFinite) ∷ rule 6 (Some (OutAlone w)) ∷ rule 8 (Some (BeyondAlone w)) ∷ []
+  cone_rules = rule 5 (SomeCone NotFinite) ∷ rule 6 (SomeCone (OutAlone w)) ∷ rule 8 (SomeCone (BeyondAlone w)) ∷ []
 
-  by_5 : (f : Some NotFinite) → cones_in w rs ≡ refused 5 f.0
+  by_5 : (f : SomeCone NotFinite) → cones_in w rs ≡ refused Why.NotANumber f.0
   by_5 f = (cone-rows w rs f.0).is_5.1 f.1
 
-  by_6 : (f : Some (OutAlone w)) → cones_in w rs ≡ refused 6 f.0
+  by_6 : (f : SomeCone (OutAlone w)) → cones_in w rs ≡ refused Why.OutOfRange f.0
   by_6 f = (cone-rows w rs f.0).is_6.1 f.1
 
-  by_8 : (f : Some (BeyondAlone w)) → cones_in w rs ≡ refused 8 f.0
+  by_8 : (f : SomeCone (BeyondAlone w)) → cones_in w rs ≡ refused Why.Beyond256 f.0
   by_8 f = (cone-rows w rs f.0).is_8.1 f.1
 
   cone_first : First cone_rules (number_of (cones_in w rs))
   cone_first = go (cones_in w rs) refl
     where
-      first_of : {n i : ℕ} → cones_in w rs ≡ refused n i → (n ≡ 5) ⊎ ((n ≡ 6) ⊎ (n ≡ 8)) → First cone_rules n
+      first_of :
+          {n : Refusal} {i : ℕ} → cones_in w rs ≡ refused n i →
+          (n ≡ Why.NotANumber) ⊎ ((n ≡ Why.OutOfRange) ⊎ (n ≡ Why.Beyond256)) → First cone_rules (number_of_refusal n)
       first_of {n} {i} e (inl h) =
-          subst (First cone_rules) (sym h)
-          (here (i, (cone-rows w rs i).is_5.0 (e ∙ ap (λ (m : ℕ). refused m i) h)))
+          subst (λ (m : Refusal). First cone_rules (number_of_refusal m)) (sym h)
+          (here (i, (cone-rows w rs i).is_5.0 (e ∙ ap (λ (m : Refusal). refused m i) h)))
       first_of {n} {i} e (inr (inl h)) =
-          subst (First cone_rules) (sym h)
-          (later (λ f. omega (arith, one_number e (by_5 f)))
-          (here (i, (cone-rows w rs i).is_6.0 (e ∙ ap (λ (m : ℕ). refused m i) h))))
+          subst (λ (m : Refusal). First cone_rules (number_of_refusal m)) (sym h)
+          (later (λ f. omega (arith, ap number_of_refusal (one_number e (by_5 f)), ap number_of_refusal h))
+          (here (i, (cone-rows w rs i).is_6.0 (e ∙ ap (λ (m : Refusal). refused m i) h))))
       first_of {n} {i} e (inr (inr h)) =
-          subst (First cone_rules) (sym h)
-          (later (λ f. omega (arith, one_number e (by_5 f)))
-          (later (λ f. omega (arith, one_number e (by_6 f)))
-          (here (i, (cone-rows w rs i).is_8.0 (e ∙ ap (λ (m : ℕ). refused m i) h)))))
+          subst (λ (m : Refusal). First cone_rules (number_of_refusal m)) (sym h)
+          (later (λ f. omega (arith, ap number_of_refusal (one_number e (by_5 f)), ap number_of_refusal h))
+          (later (λ f. omega (arith, ap number_of_refusal (one_number e (by_6 f)), ap number_of_refusal h))
+          (here (i, (cone-rows w rs i).is_8.0 (e ∙ ap (λ (m : Refusal). refused m i) h)))))
 
       go : (t : Turns GridColour) → cones_in w rs ≡ t → First cone_rules (number_of t)
       go (refused n i) e = first_of e (cone_refused_by w rs e)
@@ -154,7 +158,7 @@ module _ (white l c : ℕ) (xs ys zs : List Float) (room : ℕ) (rs : List Readi
       ∷ rule 5 (ConeNotFinite white rs) ∷ rule 6 (ConeOut white rs) ∷ rule 8 (ConeBeyond white rs) ∷ []
 
   in_white :
-      {w : White} (A : White → Reading → Type 0) → white_numbered white ≡ W.Is w → Some w rs (A w) ↔ SomeFirst white A rs
+      {w : White} (A : White → Reading → Type 0) → white_numbered white ≡ Some w → SomeCone w rs (A w) ↔ SomeFirst white A rs
   in_white {w} A e = (
     λ f. (f.0, (w, e, f.1)),
     λ f. (f.0, subst (λ (v : White). FirstBy v (A v) rs f.0) (cc f.1.1) f.1.2),
@@ -217,11 +221,13 @@ module _ (white : ℕ) (rs : List Reading) where
         of_other = λ o. refl;
       }
 
-  module _ {w : White} (e : white_numbered white ≡ W.Is w) where
-    one_of_three : {n i : ℕ} → (n ≡ 5) ⊎ ((n ≡ 6) ⊎ (n ≡ 8)) → OneOf n (0 ∷ 2 ∷ 3 ∷ 11 ∷ []) → i ≡ 0
-    one_of_three (inl h) o = absurd (true≢false (sym o ∙ ap (λ (k : ℕ). is_one_of k (0 ∷ 2 ∷ 3 ∷ 11 ∷ [])) h))
-    one_of_three (inr (inl h)) o = absurd (true≢false (sym o ∙ ap (λ (k : ℕ). is_one_of k (0 ∷ 2 ∷ 3 ∷ 11 ∷ [])) h))
-    one_of_three (inr (inr h)) o = absurd (true≢false (sym o ∙ ap (λ (k : ℕ). is_one_of k (0 ∷ 2 ∷ 3 ∷ 11 ∷ [])) h))
+  module _ {w : White} (e : white_numbered white ≡ Some w) where
+    one_of_three :
+        {n : Refusal} {i : ℕ} → (n ≡ Why.NotANumber) ⊎ ((n ≡ Why.OutOfRange) ⊎ (n ≡ Why.Beyond256)) →
+        OneOf (number_of_refusal n) (0 ∷ 2 ∷ 3 ∷ 11 ∷ []) → i ≡ 0
+    one_of_three (inl h) o = absurd (true≢false (sym o ∙ ap (λ (k : Refusal). is_one_of (number_of_refusal k) (0 ∷ 2 ∷ 3 ∷ 11 ∷ [])) h))
+    one_of_three (inr (inl h)) o = absurd (true≢false (sym o ∙ ap (λ (k : Refusal). is_one_of (number_of_refusal k) (0 ∷ 2 ∷ 3 ∷ 11 ∷ [])) h))
+    one_of_three (inr (inr h)) o = absurd (true≢false (sym o ∙ ap (λ (k : Refusal). is_one_of (number_of_refusal k) (0 ∷ 2 ∷ 3 ∷ 11 ∷ [])) h))
 
     of_cones : (t : Turns GridColour) → cones_in w rs ≡ t → RefusedCone white rs (number_of t) (index_of t)
     of_cones (whole cs) g =
@@ -233,9 +239,9 @@ module _ (white : ℕ) (rs : List Reading) where
         }
     of_cones (refused n i) g =
         record {
-          of_5 = λ h. (w, e, (cone-rows w rs i).is_5.0 (g ∙ ap (λ (m : ℕ). refused m i) h));
-          of_6 = λ h. (w, e, (cone-rows w rs i).is_6.0 (g ∙ ap (λ (m : ℕ). refused m i) h));
-          of_8 = λ h. (w, e, (cone-rows w rs i).is_8.0 (g ∙ ap (λ (m : ℕ). refused m i) h));
+          of_5 = λ h. (w, e, (cone-rows w rs i).is_5.0 (g ∙ ap (λ (m : Refusal). refused m i) (number-only n Why.NotANumber h)));
+          of_6 = λ h. (w, e, (cone-rows w rs i).is_6.0 (g ∙ ap (λ (m : Refusal). refused m i) (number-only n Why.OutOfRange h)));
+          of_8 = λ h. (w, e, (cone-rows w rs i).is_8.0 (g ∙ ap (λ (m : Refusal). refused m i) (number-only n Why.Beyond256 h)));
           of_other = one_of_three (cone_refused_by w rs g);
         }
 

@@ -1,7 +1,8 @@
 -- The number of a ticket is that of the first of its rules that holds, and so its rows are true. Assumes nothing.
-use Rattle.std.specs.Prelude.{◌≡◌, refl, false, List, [], ◌∷◌, ◌++◌, ◌↔◌, ℕ, eqb}
+use Rattle.std.specs.Prelude.{◌≡◌, refl, false, List, [], ◌∷◌, ◌++◌, ◌↔◌, ℕ, eqb, Ok, Err}
 use Rattle.std.proofs.Math.Path.{sym, ap}
 use Rattle.std.proofs.Common.{subst, ◌∙◌, arith}
+use Rattle.colour.specs.Refusal.{refusal_of}
 use Rattle.colour.specs.Placed.{place_written}
 use Rattle.colour.specs.Placed.Exactly.{WrittenOutOfRange, WrittenBeyond}
 use Rattle.colour.proofs.Theorems.Placed.Exactly.Ways.{read-written}
@@ -9,11 +10,9 @@ use Rattle.ticket.specs.Ticket.{ticket_of}
 use Rattle.ticket.proofs.Theorems.Ticket.Grammar.Wrong.{wrong_exactly}
 use Rattle.ticket.proofs.Theorems.Ticket.Grammar.Right.{right_exactly}
 use Rattle.ticket.specs.declared.lines.Ticket.{Ticket}
-use Rattle.ticket.specs.declared.lines.Parsed.{Parsed}
-use Rattle.ticket.specs.declared.lines.Parsed.TheVariants.{Right, Wrong}
+use Rattle.ticket.specs.Ticket.{Parsed, wrong_line}
 use Rattle.standard.specs.Refusals.{first}
 use Rattle.standard.proofs.Theorems.Refusals.Laws.{refusal-room, refusal_keeps}
-use Rattle.standard.specs.Judgement.{number_of}
 use Rattle.station.specs.Record.Exactly.{FactorsOut, ToleranceOut}
 use Rattle.station.specs.Record.Exactly.Accepting.{accepting}
 use Rattle.calls.specs.Outcome.{ticket_outcome, ticket_faults}
@@ -40,7 +39,7 @@ module _ (t : Ticket) where
       ∷ rule 6 (WrittenOutOfRange t.reference) ∷ rule 8 (WrittenBeyond t.settings.white t.reference)
       ∷ rule 6 (WrittenOutOfRange t.test) ∷ rule 8 (WrittenBeyond t.settings.white t.test) ∷ []
 
-  right_first : First right_rules (number_of (ticket_outcome (Right t)))
+  right_first : First right_rules (refusal_of (ticket_outcome (Ok t)))
   right_first =
       let w = t.settings.white in
       let load = accepting t.settings (place_written w t.reference) in
@@ -57,28 +56,28 @@ module _ (text : List ℕ) where
       ∷ rule 6 (ReferenceOut text) ∷ rule 8 (ReferenceBeyond text)
       ∷ rule 6 (TestOut text) ∷ rule 8 (TestBeyond text) ∷ []
 
-  in_ticket : {t : Ticket} → ticket_of text ≡ Right t → (P : Ticket → Type 0) → P t ↔ InTicket text P
+  in_ticket : {t : Ticket} → ticket_of text ≡ Ok t → (P : Ticket → Type 0) → P t ↔ InTicket text P
   in_ticket {t} e P = (
     λ p. (t, (right_exactly text t).0 e, p),
     λ h. subst P (right_is (sym ((right_exactly text h.0).1 h.1) ∙ e)) h.2,
   )
     where
-      right_is : {s u : Ticket} → Right s ≡ Right u → s ≡ u
+      right_is : {s u : Ticket} → ◌≡◌ {A = Parsed} (Ok s) (Ok u) → s ≡ u
       right_is e = cc
 
-  wrong_first : (line : ℕ) → ticket_of text ≡ Wrong line → First ticket_rules (number_of (ticket_outcome (Wrong line)))
+  wrong_first : (line : ℕ) → ticket_of text ≡ wrong_line line → First ticket_rules (refusal_of (ticket_outcome (wrong_line line)))
   unfolding ticket_outcome
   wrong_first line e = here {r = rule 7 (WrongText text)} (line, (wrong_exactly text line).0 e)
 
-  ticket_first : First ticket_rules (number_of (ticket_outcome (ticket_of text)))
+  ticket_first : First ticket_rules (refusal_of (ticket_outcome (ticket_of text)))
   ticket_first = go (ticket_of text) refl
     where
-      right_not : {t : Ticket} {n : ℕ} → Right t ≡ Wrong n → ⊥
+      right_not : {t : Ticket} {n : ℕ} → ◌≡◌ {A = Parsed} (Ok t) (wrong_line n) → ⊥
       right_not e = let no : ◌≡◌ {A = ℕ} 0 1 = cc in omega arith
 
-      go : (p : Parsed) → ticket_of text ≡ p → First ticket_rules (number_of (ticket_outcome p))
-      go (Wrong line) e = wrong_first line e
-      go (Right t) e =
+      go : (p : Parsed) → ticket_of text ≡ p → First ticket_rules (refusal_of (ticket_outcome p))
+      go (Err m) e = wrong_first m.0 e
+      go (Ok t) e =
           later {r = rule 7 (WrongText text)} (λ h. right_not (sym e ∙ (wrong_exactly text h.0).1 h.1))
           (first_same
           (more (in_ticket e _) (more (in_ticket e _)
@@ -98,7 +97,7 @@ module _ (text : List ℕ) where
       }
 
   -- EACH NUMBER OF A TICKET EXACTLY THEN, by value
-  pub ticket_by_value : TicketByValue (number_of (ticket_outcome (ticket_of text))) text
+  pub ticket_by_value : TicketByValue (refusal_of (ticket_outcome (ticket_of text))) text
   ticket_by_value =
       record {
         one_of =
@@ -114,7 +113,7 @@ module _ (text : List ℕ) where
     short = rule 10 (RoomShort (ticket_outcome (ticket_of text)) room column) ∷ []
 
     ticket-call-number :
-        first (number_of (ticket_outcome (ticket_of text))) (room_fault (ticket_outcome (ticket_of text)) room column).number
+        first (refusal_of (ticket_outcome (ticket_of text))) (room_fault (ticket_outcome (ticket_of text)) room column).number
         ≡ (ticket_call text room column).number
     unfolding ticket_call
     ticket-call-number =

@@ -3,7 +3,7 @@
 -- station's would. Assumes nothing.
 use Rattle.std.specs.Prelude.{◌≡◌, refl, List, [], ◌∷◌, ℕ}
 use Rattle.std.proofs.Common.{ap, ◌∙◌, subst}
-use Rattle.colour.specs.declared.placed.Reading.{Reading}
+use Rattle.colour.specs.Placed.{Reading}
 use Rattle.standard.specs.Refusals.{number_at, first_of, refusal}
 use Rattle.standard.specs.Acceptance.{settings_of}
 use Rattle.station.specs.Record.{decode, zeros}

@@ -1,11 +1,18 @@
--- `outcome::ticket_outcome` meets its contract: 7 for a wrong text, else the ticket's outcome. Assumes nothing.
+-- `outcome::ticket_outcome` meets its contract: what is accepted is a valid standard, and what is placed lies on the
+-- grid. Assumes nothing.
 use Rattle.std.proofs.Common.{sym, ap, ◌∙◌}
-use Rattle.calls.specs.Outcome.{ticket_outcome}
+use Rattle.standard.specs.Acceptance.{acceptance}
+use Rattle.standard.proofs.Theorems.Acceptance.Laws.{accepted-valid}
+use Rattle.colour.proofs.Theorems.Placed.Laws.{written_on_grid}
 use Rattle.calls.proofs.outcome.ticket_outcome.Goals as goal
 
-pub returns-in-Right : goal.returns-in-Right
-returns-in-Right c = c.right_outcome.ensures ∙ sym (ap ticket_outcome c.in-Right.is)
-
-pub returns-in-Wrong : goal.returns-in-Wrong
-unfolding ticket_outcome
-returns-in-Wrong c = sym (ap ticket_outcome c.in-Wrong.is)
+pub judge-requires : goal.judge-requires
+judge-requires c =
+    let t = c.in_ok-t.t in
+    record {
+      standard =
+          accepted-valid t.settings c.place.result
+          (λ k e. written_on_grid t.settings.white t.reference k (sym c.place.ensures ∙ e)) c.in_ok-s.s
+          (sym c.accept.ensures ∙ c.in_ok-s.was);
+      test = λ k e. written_on_grid t.settings.white t.test k (sym c.place-2.ensures ∙ e);
+    }

@@ -1,45 +1,44 @@
 -- What callers use of placing: that every colour that is placed lies on the grid, and which numbers refuse a reading.
 -- Assumes nothing.
-use Rattle.std.specs.Prelude.{◌≡◌, Bool, true, false, ◌&&◌, ◌||◌, cond, ◌⊎◌, ℕ, ◌*◌, ◌^◌, ◌≤◌, leb, ℤ}
+use Rattle.std.specs.Prelude.{◌≡◌, Bool, true, false, ◌&&◌, ◌||◌, cond, ◌⊎◌, ℕ, ◌*◌, ◌^◌, ◌≤◌, leb, ℤ, Ok, Err}
 use Rattle.std.proofs.Math.Path.{refl}
 use Rattle.std.proofs.Common.{sym, ap, subst, ◌∙◌, inl, inr, zero-le, arith, le-ltb, leb-true, leb-false}
 use Rattle.rounding.specs.Signed.{∣◌∣, minus}
-use Rattle.reading.specs.Reading.{range_of, limit, is_within, float_units, decimal_units}
-use Rattle.reading.proofs.Theorems.Reading.Laws.{Within, float-units-within, decimal_units_in, decimal_units_out}
+use Rattle.reading.specs.Reading.{Within, range_of, limit, is_within, float_units, decimal_units}
+use Rattle.reading.proofs.Theorems.Reading.Laws.{float-units-within, decimal_units_in, decimal_units_out}
 use Rattle.reading.proofs.Theorems.Reading.Laws.{decimal-units-within, abs_le_of_within, not_minus_of_within, opponent-le}
 use Rattle.reading.specs.declared.decimal.Decimal.{Decimal}
 use Rattle.reading.specs.declared.quantity.Quantity.{Quantity}
 use Rattle.reading.specs.declared.quantity.Quantity.TheVariants.{Tristimulus, Lightness, Opponent}
-use Rattle.reading.specs.declared.quantity.Units.{Units}
-use Rattle.reading.specs.declared.quantity.Units.TheVariants.{Of}
+use Rattle.reading.specs.Reading.{Units}
 use Rattle.colour.specs.declared.white.White.{White}
 use Rattle.colour.specs.declared.conversion.GridColour.{GridColour}
-use Rattle.colour.specs.declared.placed.Reading.{Reading}
-use Rattle.colour.specs.declared.placed.Reading.TheVariants as R
-use Rattle.colour.specs.declared.placed.Written.{Written}
-use Rattle.colour.specs.declared.placed.Written.TheVariants as W
-use Rattle.colour.specs.declared.placed.Placed.{Placed}
-use Rattle.colour.specs.declared.placed.Placed.TheVariants.{At, Refused}
+use Rattle.colour.specs.Placed.{Reading}
+use Rattle.colour.specs.declared.placed.Values.TheVariants.{Xyz, Lab}
+use Rattle.colour.specs.Placed.{Written}
+use Rattle.colour.specs.Placed.{Placed}
 use Rattle.colour.specs.White.{white_of}
 use Rattle.colour.specs.Conversion.{bs6923, lightness, convert}
 use Rattle.colour.proofs.Theorems.Conversion.Laws.{lightness-le}
 use Rattle.colour.specs.Conversion.Ranges.{Against, OnGrid}
 use Rattle.colour.specs.Placed.{is_not_finite, fault, take, accepted, converted, place_xyz, place_lab, take_xyz}
-use Rattle.colour.specs.Placed.{take_lab, place, place_written}
+use Rattle.colour.specs.Placed.{take_lab, place_by, place, place_written}
 use Rattle.colour.specs.Placed.Ranges.{XyzWithin}
 use Rattle.colour.proofs.Theorems.Placed.Ways.{Takes, handed, refused, takes, measured}
+use Rattle.colour.specs.declared.refusal.Refusal.{Refusal}
+use Rattle.colour.specs.declared.refusal.Refusal.TheVariants as Why
 
 -- ---- every colour that is placed lies on the grid
 
 accepted_on_grid :
-    (c d : GridColour) → minus c.L.0 ≡ false → ∣ c.L.0 ∣ ≤ 120 * 2 ^ 20 → accepted c ≡ At d → OnGrid d
+    (c d : GridColour) → minus c.L.0 ≡ false → ∣ c.L.0 ∣ ≤ 120 * 2 ^ 20 → accepted c ≡ Ok d → OnGrid d
 unfolding accepted
 accepted_on_grid c d light small e =
     go (is_within (range_of Opponent) c.a.0) (is_within (range_of Opponent) c.b.0) refl refl e
   where
     go :
         (p q : Bool) → is_within (range_of Opponent) c.a.0 ≡ p → is_within (range_of Opponent) c.b.0 ≡ q →
-        cond (p && q) (At c) (Refused 8) ≡ At d → OnGrid d
+        cond (p && q) (Ok c) (Err Why.Beyond256) ≡ Ok d → OnGrid d
     go false q a b h = let no : ◌≡◌ {A = ℕ} 0 1 = cc in absurd (omega arith)
     go true false a b h = let no : ◌≡◌ {A = ℕ} 0 1 = cc in absurd (omega arith)
     go true true a b h =
@@ -50,17 +49,17 @@ accepted_on_grid c d light small e =
 -- whatever units give, a colour that was placed came of them
 placed_of_units :
     (u v w : Units) (next : (x y z : ℤ) → Placed) (d : GridColour) →
-    ((x y z : ℤ) → u ≡ Of x → v ≡ Of y → w ≡ Of z → next x y z ≡ At d → OnGrid d) →
-    take u v w next ≡ At d → OnGrid d
+    ((x y z : ℤ) → u ≡ Ok x → v ≡ Ok y → w ≡ Ok z → next x y z ≡ Ok d → OnGrid d) →
+    take u v w next ≡ Ok d → OnGrid d
 placed_of_units u v w next d each e = go (take u v w next) (takes u v w next) e
   where
-    go : (p : Placed) → Takes u v w next p → p ≡ At d → OnGrid d
+    go : (p : Placed) → Takes u v w next p → p ≡ Ok d → OnGrid d
     go p (handed x y z eu ev ew) h = each x y z eu ev ew h
     go p refused h = let no : ◌≡◌ {A = ℕ} 0 1 = cc in absurd (omega arith)
 
 -- floats and decimals alike, since both are read within their ranges
 module _ {A : Type 0} (units : Quantity → A → Units)
-    (within : (q : Quantity) (x : A) (z : ℤ) → units q x ≡ Of z → Within (range_of q) z) where
+    (within : (q : Quantity) (x : A) (z : ℤ) → units q x ≡ Ok z → Within (range_of q) z) where
   pub xyz-within :
       (x y z : A) {u v w : Units} → u ≡ units Tristimulus x → v ≡ units Tristimulus y → w ≡ units Tristimulus z →
       XyzWithin u v w
@@ -74,7 +73,7 @@ module _ {A : Type 0} (units : Quantity → A → Units)
             };
       }
 
-  take_xyz_on_grid : (w : White) (x y z : A) (d : GridColour) → take_xyz units w x y z ≡ At d → OnGrid d
+  take_xyz_on_grid : (w : White) (x y z : A) (d : GridColour) → take_xyz units w x y z ≡ Ok d → OnGrid d
   unfolding convert
   take_xyz_on_grid w x y z d =
       placed_of_units _ _ _ (place_xyz w) d
@@ -85,7 +84,7 @@ module _ {A : Type 0} (units : Quantity → A → Units)
       accepted_on_grid (converted w a b c) d (le-ltb (lightness 20 bs6923 ∣ b ∣ (white_of w).Y) 0 zero-le)
       (lightness-le ∣ b ∣ (white_of w).Y Y) e)
 
-  take_lab_on_grid : (l a b : A) (d : GridColour) → take_lab units l a b ≡ At d → OnGrid d
+  take_lab_on_grid : (l a b : A) (d : GridColour) → take_lab units l a b ≡ Ok d → OnGrid d
   take_lab_on_grid l a b d =
       placed_of_units _ _ _ place_lab d
       (λ x y z ex ey ez e.
@@ -99,60 +98,64 @@ module _ {A : Type 0} (units : Quantity → A → Units)
         b = abs_le_of_within Opponent z (within Opponent b z ez);
       }))
 
-pub place_on_grid : (w : White) (r : Reading) (c : GridColour) → place w r ≡ At c → OnGrid c
-unfolding place
-place_on_grid w (R.Xyz x y z) c e = take_xyz_on_grid float_units float-units-within w x y z c e
-place_on_grid w (R.Lab l a b) c e = take_lab_on_grid float_units float-units-within l a b c e
+pub place_on_grid : (w : White) (r : Reading) (c : GridColour) → place w r ≡ Ok c → OnGrid c
+unfolding place_by
+place_on_grid w (Xyz x y z) c e = take_xyz_on_grid float_units float-units-within w x y z c e
+place_on_grid w (Lab l a b) c e = take_lab_on_grid float_units float-units-within l a b c e
 
-pub written_on_grid : (w : White) (r : Written) (c : GridColour) → place_written w r ≡ At c → OnGrid c
-unfolding place_written
-written_on_grid w (W.Xyz x y z) c e = take_xyz_on_grid decimal_units decimal-units-within w x y z c e
-written_on_grid w (W.Lab l a b) c e = take_lab_on_grid decimal_units decimal-units-within l a b c e
+pub written_on_grid : (w : White) (r : Written) (c : GridColour) → place_written w r ≡ Ok c → OnGrid c
+unfolding place_by
+written_on_grid w (Xyz x y z) c e = take_xyz_on_grid decimal_units decimal-units-within w x y z c e
+written_on_grid w (Lab l a b) c e = take_lab_on_grid decimal_units decimal-units-within l a b c e
 
--- ---- which numbers refuse a reading
+-- ---- what refuses a reading
 
 -- what has units is refused with 8, if at all
-xyz-refused : (w : White) {n : ℕ} (x y z : ℤ) → place_xyz w x y z ≡ Refused n → n ≡ 8
+xyz-refused : (w : White) {e : Refusal} (x y z : ℤ) → place_xyz w x y z ≡ Err e → e ≡ Why.Beyond256
 unfolding accepted
-xyz-refused w {n} x y z = go (is_within (range_of Opponent) c.a.0 && is_within (range_of Opponent) c.b.0)
+xyz-refused w {e} x y z = go (is_within (range_of Opponent) c.a.0 && is_within (range_of Opponent) c.b.0)
   where
     c : GridColour
     c = converted w x y z
 
-    go : (b : Bool) → cond b (At c) (Refused 8) ≡ Refused n → n ≡ 8
-    go true e = let no : ◌≡◌ {A = ℕ} 0 1 = cc in absurd (omega arith)
-    go false e = cc
+    go : (b : Bool) → cond b (Ok c) (Err Why.Beyond256) ≡ Err e → e ≡ Why.Beyond256
+    go true h = let no : ◌≡◌ {A = ℕ} 0 1 = cc in absurd (omega arith)
+    go false h = cc
 
-lab-refused : {n : ℕ} (l a b : ℤ) → place_lab l a b ≡ Refused n → n ≡ 8
-lab-refused l a b e = let no : ◌≡◌ {A = ℕ} 0 1 = cc in absurd (omega arith)
+lab-refused : {e : Refusal} (l a b : ℤ) → place_lab l a b ≡ Err e → e ≡ Why.Beyond256
+lab-refused l a b h = let no : ◌≡◌ {A = ℕ} 0 1 = cc in absurd (omega arith)
 
-module _ (u v w : Units) (next : (x y z : ℤ) → Placed) {n : ℕ} (eight : (x y z : ℤ) → next x y z ≡ Refused n → n ≡ 8)
-  where
-    refused_by : take u v w next ≡ Refused n → (n ≡ fault u v w) ⊎ (n ≡ 8)
-    refused_by e = go (take u v w next) (takes u v w next) e
-      where
-        go : (p : Placed) → Takes u v w next p → p ≡ Refused n → (n ≡ fault u v w) ⊎ (n ≡ 8)
-        go p (handed x y z eu ev ew) h = inr (eight x y z h)
-        go p refused h = inl cc
+module _ (u v w : Units) (next : (x y z : ℤ) → Placed) {e : Refusal}
+    (eight : (x y z : ℤ) → next x y z ≡ Err e → e ≡ Why.Beyond256) where
+  refused_by : take u v w next ≡ Err e → (e ≡ fault u v w) ⊎ (e ≡ Why.Beyond256)
+  refused_by h = go (take u v w next) (takes u v w next) h
+    where
+      go : (p : Placed) → Takes u v w next p → p ≡ Err e → (e ≡ fault u v w) ⊎ (e ≡ Why.Beyond256)
+      go p (handed x y z eu ev ew) g = inr (eight x y z g)
+      go p refused g = inl cc
 
-    take-refused : take u v w next ≡ Refused n → (n ≡ 5) ⊎ ((n ≡ 6) ⊎ (n ≡ 8))
-    take-refused e = go (is_not_finite u || is_not_finite v || is_not_finite w) (refused_by e)
-      where
-        go : (b : Bool) → (n ≡ cond b 5 6) ⊎ (n ≡ 8) → (n ≡ 5) ⊎ ((n ≡ 6) ⊎ (n ≡ 8))
-        go true (inl h) = inl h
-        go false (inl h) = inr (inl h)
-        go true (inr h) = inr (inr h)
-        go false (inr h) = inr (inr h)
+  take-refused : take u v w next ≡ Err e → (e ≡ Why.NotANumber) ⊎ ((e ≡ Why.OutOfRange) ⊎ (e ≡ Why.Beyond256))
+  take-refused h = go (is_not_finite u || is_not_finite v || is_not_finite w) (refused_by h)
+    where
+      go :
+          (b : Bool) → (e ≡ cond b Why.NotANumber Why.OutOfRange) ⊎ (e ≡ Why.Beyond256) →
+          (e ≡ Why.NotANumber) ⊎ ((e ≡ Why.OutOfRange) ⊎ (e ≡ Why.Beyond256))
+      go true (inl g) = inl g
+      go false (inl g) = inr (inl g)
+      go true (inr g) = inr (inr g)
+      go false (inr g) = inr (inr g)
 
-    finite-refused :
-        is_not_finite u ≡ false → is_not_finite v ≡ false → is_not_finite w ≡ false → take u v w next ≡ Refused n →
-        (n ≡ 6) ⊎ (n ≡ 8)
-    finite-refused hu hv hw e = rw (hu, hv, hw) at (refused_by e)
+  finite-refused :
+      is_not_finite u ≡ false → is_not_finite v ≡ false → is_not_finite w ≡ false → take u v w next ≡ Err e →
+      (e ≡ Why.OutOfRange) ⊎ (e ≡ Why.Beyond256)
+  finite-refused hu hv hw h = rw (hu, hv, hw) at (refused_by h)
 
-pub place-refused : (w : White) (r : Reading) {n : ℕ} → place w r ≡ Refused n → (n ≡ 5) ⊎ ((n ≡ 6) ⊎ (n ≡ 8))
-unfolding place
-place-refused w (R.Xyz x y z) e = take-refused _ _ _ (place_xyz w) (xyz-refused w) e
-place-refused w (R.Lab l a b) e = take-refused _ _ _ place_lab lab-refused e
+pub place-refused :
+    (w : White) (r : Reading) {e : Refusal} → place w r ≡ Err e →
+    (e ≡ Why.NotANumber) ⊎ ((e ≡ Why.OutOfRange) ⊎ (e ≡ Why.Beyond256))
+unfolding place_by
+place-refused w (Xyz x y z) h = take-refused _ _ _ (place_xyz w) (xyz-refused w) h
+place-refused w (Lab l a b) h = take-refused _ _ _ place_lab lab-refused h
 
 decimal-finite : (q : Quantity) (d : Decimal) → is_not_finite (decimal_units q d) ≡ false
 decimal-finite q d = go (leb d.millionths (limit (range_of q) d.below * 1000000)) refl
@@ -164,9 +167,10 @@ decimal-finite q d = go (leb d.millionths (limit (range_of q) d.below * 1000000)
     go false h = ap is_not_finite (decimal_units_out q d (leb-false _ _ h))
 
 -- A DECIMAL IS NEVER NOT-A-NUMBER OR INFINITE: no written reading is refused with 5
-pub written-refused : (w : White) (r : Written) {n : ℕ} → place_written w r ≡ Refused n → (n ≡ 6) ⊎ (n ≡ 8)
-unfolding place_written
-written-refused w (W.Xyz x y z) e =
-    finite-refused _ _ _ (place_xyz w) (xyz-refused w) (decimal-finite _ x) (decimal-finite _ y) (decimal-finite _ z) e
-written-refused w (W.Lab l a b) e =
-    finite-refused _ _ _ place_lab lab-refused (decimal-finite _ l) (decimal-finite _ a) (decimal-finite _ b) e
+pub written-refused :
+    (w : White) (r : Written) {e : Refusal} → place_written w r ≡ Err e → (e ≡ Why.OutOfRange) ⊎ (e ≡ Why.Beyond256)
+unfolding place_by
+written-refused w (Xyz x y z) h =
+    finite-refused _ _ _ (place_xyz w) (xyz-refused w) (decimal-finite _ x) (decimal-finite _ y) (decimal-finite _ z) h
+written-refused w (Lab l a b) h =
+    finite-refused _ _ _ place_lab lab-refused (decimal-finite _ l) (decimal-finite _ a) (decimal-finite _ b) h

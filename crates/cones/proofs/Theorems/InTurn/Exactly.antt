@@ -1,30 +1,30 @@
 -- WHICH ANSWER IT IS: refused with n at i exactly where element i is refused with n and all before it are taken; the
 -- whole list of values exactly where each element is taken with the value at its place. Assumes nothing.
-use Rattle.std.specs.Prelude.{◌≡◌, ◌↔◌, length, get_or}
+use Rattle.std.specs.Prelude.{◌≡◌, ◌↔◌, length, get_or, Ok, Err}
 use Rattle.std.proofs.Math.Path.{refl, sym, ap}
 use Rattle.std.proofs.Common.{◌∙◌, subst, not-suc-le-zero, zero-lt-suc, zero-add, add-suc, suc-add, arith}
-use mathlib.Core.List.{List, [], ◌∷◌}
-use mathlib.Core.List.{Permᴰ}
+use mathlib.Core.List.{List, [], ◌∷◌, Permᴰ}
 use Prim.Native.Nat.{ℕ, zero, suc, ◌+◌, ◌<◌, suc-le-suc}
 use Rattle.std.proofs.Math.Nat.{le_of_suc-le-suc, add-zero}
 use Rattle.rounding.specs.Every.{Every}
 use Rattle.rounding.specs.Every as E
-use Rattle.cones.specs.InTurn.{Turn, taken, denied, whole, refused, either, after, in_turn_from, in_turn}
+use Rattle.colour.specs.declared.refusal.Refusal.{Refusal}
+use Rattle.cones.specs.InTurn.{Turn, whole, refused, either, after, in_turn_from, in_turn}
 
 pub data IsTaken {W : Type 0} : Turn W → Type 0 where
-  is_taken : (v : W) → IsTaken (taken v)
+  is_taken : (v : W) → IsTaken (Ok v)
 
 module _ {P W : Type 0} (turn : P → Turn W) where
   -- d is what a read past the end would be
-  pub record FirstRefused (d : P) (ps : List P) (n i : ℕ) : Type 0 where
+  pub record FirstRefused (d : P) (ps : List P) (n : Refusal) (i : ℕ) : Type 0 where
     pub within : i < length ps
-    pub here : turn (get_or ps i d) ≡ denied n
+    pub here : turn (get_or ps i d) ≡ Err n
     pub before : (j : ℕ) → j < i → IsTaken (turn (get_or ps j d))
 
   -- element by element
   pub data AllTaken : List P → List W → Type 0 where
     none : AllTaken [] []
-    more : {p : P} {v : W} {ps : List P} {vs : List W} → turn p ≡ taken v → AllTaken ps vs → AllTaken (p ∷ ps) (v ∷ vs)
+    more : {p : P} {v : W} {ps : List P} {vs : List W} → turn p ≡ Ok v → AllTaken ps vs → AllTaken (p ∷ ps) (v ∷ vs)
 
   pub taken-length : {ps : List P} {vs : List W} → AllTaken ps vs → length vs ≡ length ps
   taken-length none = refl
@@ -32,7 +32,7 @@ module _ {P W : Type 0} (turn : P → Turn W) where
 
   pub taken_at :
       {ps : List P} {vs : List W} → AllTaken ps vs → (i : ℕ) (d : P) (e : W) → i < length ps →
-      turn (get_or ps i d) ≡ taken (get_or vs i e)
+      turn (get_or ps i d) ≡ Ok (get_or vs i e)
   taken_at none i d e l = absurd (not-suc-le-zero l)
   taken_at (more h hs) zero d e l = h
   taken_at (more h hs) (suc i) d e l = taken_at hs i d e (le_of_suc-le-suc l)
@@ -40,7 +40,7 @@ module _ {P W : Type 0} (turn : P → Turn W) where
   module _ (d : P) where
     -- ---- if
 
-    refused_if : (ps : List P) (n i k : ℕ) → FirstRefused d ps n i → in_turn_from turn k ps ≡ refused n (k + i)
+    refused_if : (ps : List P) (n : Refusal) (i k : ℕ) → FirstRefused d ps n i → in_turn_from turn k ps ≡ refused n (k + i)
     unfolding in_turn_from
     refused_if [] n i k h = absurd (not-suc-le-zero h.within)
     refused_if (p ∷ ps) n zero k h = rw (h.here, add-zero k)
@@ -55,10 +55,10 @@ module _ {P W : Type 0} (turn : P → Turn W) where
       where
         go :
             (t : Turn W) → IsTaken t → in_turn_from turn (suc k) ps ≡ refused n (suc k + i) →
-            either t (λ (v : W). after (v ∷ []) (in_turn_from turn (suc k) ps)) (λ (m : ℕ). refused m k)
+            either t (λ (v : W). after (v ∷ []) (in_turn_from turn (suc k) ps)) (λ (m : Refusal). refused m k)
             ≡ refused n (k + suc i)
-        go (taken v) (is_taken w) rest = ap (after (v ∷ [])) rest ∙ ap (refused n) (suc-add k i ∙ sym (add-suc k i))
-        go (denied m) t rest = elim t [ ]
+        go (Ok v) (is_taken w) rest = ap (after (v ∷ [])) rest ∙ ap (refused n) (suc-add k i ∙ sym (add-suc k i))
+        go (Err m) t rest = elim t [ ]
 
     whole_if : {ps : List P} {vs : List W} (k : ℕ) → AllTaken ps vs → in_turn_from turn k ps ≡ whole vs
     unfolding in_turn_from
@@ -69,18 +69,18 @@ module _ {P W : Type 0} (turn : P → Turn W) where
 
     data OneOf (ps : List P) : Type 0 where
       all : (vs : List W) → AllTaken ps vs → OneOf ps
-      first : (n i : ℕ) → FirstRefused d ps n i → OneOf ps
+      first : (n : Refusal) (i : ℕ) → FirstRefused d ps n i → OneOf ps
 
     one_of : (ps : List P) → OneOf ps
     one_of [] = all [] none
     one_of (p ∷ ps) = go (turn p) refl (one_of ps)
       where
         go : (t : Turn W) → turn p ≡ t → OneOf ps → OneOf (p ∷ ps)
-        go (denied n) g r =
+        go (Err n) g r =
             first n 0
             (record { within = zero-lt-suc (length ps); here = g; before = λ j l. absurd (not-suc-le-zero l) })
-        go (taken v) g (all vs h) = all (v ∷ vs) (more g h)
-        go (taken v) g (first n i h) =
+        go (Ok v) g (all vs h) = all (v ∷ vs) (more g h)
+        go (Ok v) g (first n i h) =
             first n (suc i) (record { within = suc-le-suc h.within; here = h.here; before = before })
           where
             before : (j : ℕ) → j < suc i → IsTaken (turn (get_or (p ∷ ps) j d))
@@ -89,7 +89,7 @@ module _ {P W : Type 0} (turn : P → Turn W) where
 
     -- ---- only if
 
-    refused_only_if : (ps : List P) (n i : ℕ) → in_turn turn ps ≡ refused n i → FirstRefused d ps n i
+    refused_only_if : (ps : List P) (n : Refusal) (i : ℕ) → in_turn turn ps ≡ refused n i → FirstRefused d ps n i
     refused_only_if ps n i h = go (one_of ps)
       where
         go : OneOf ps → FirstRefused d ps n i
@@ -98,7 +98,7 @@ module _ {P W : Type 0} (turn : P → Turn W) where
             let e = refused_if ps m j 0 g in
             let em : m ≡ n = cc in
             let ej : 0 + j ≡ i = cc in
-            subst (λ (x : ℕ). FirstRefused d ps x i) em (subst (FirstRefused d ps m) (omega arith) g)
+            subst (λ (x : Refusal). FirstRefused d ps x i) em (subst (FirstRefused d ps m) (omega arith) g)
 
     whole_only_if : (ps : List P) (vs : List W) → in_turn turn ps ≡ whole vs → AllTaken ps vs
     whole_only_if ps vs h = go (one_of ps)
@@ -108,7 +108,7 @@ module _ {P W : Type 0} (turn : P → Turn W) where
         go (first m j g) = let e = refused_if ps m j 0 g in let no : ◌≡◌ {A = ℕ} 0 1 = cc in absurd (omega arith)
 
     -- THE FIRST REFUSED ELEMENT, EXACTLY THEN
-    pub refused_exactly : (ps : List P) (n i : ℕ) → in_turn turn ps ≡ refused n i ↔ FirstRefused d ps n i
+    pub refused_exactly : (ps : List P) (n : Refusal) (i : ℕ) → in_turn turn ps ≡ refused n i ↔ FirstRefused d ps n i
     refused_exactly ps n i = (refused_only_if ps n i, λ f. refused_if ps n i 0 f ∙ ap (refused n) (zero-add i))
 
     -- ALL OF THEM, EXACTLY THEN
@@ -124,7 +124,7 @@ module _ {P W : Type 0} (turn : P → Turn W) where
 
   -- elements that are all the same have one value
   pub taken_same :
-      {q : P} {v : W} → turn q ≡ taken v → {ps : List P} {vs : List W} → AllTaken ps vs →
+      {q : P} {v : W} → turn q ≡ Ok v → {ps : List P} {vs : List W} → AllTaken ps vs →
       Every (λ (p : P). p ≡ q) ps → Every (λ (u : W). u ≡ v) vs
   taken_same e none E.none = E.none
   taken_same {v = v} e (more {v = u} h hs) (E.more p ps) =

@@ -1,12 +1,13 @@
 -- What a loop over a list goes by: a law for its start, one for each way through its body, one for its end. The
 -- invariant holds the values so far as a list that no variable of the code holds, and what the loop's own variables
 -- are of it (Q). Assumes nothing.
-use Rattle.std.specs.Prelude.{◌≡◌, refl, ℕ, suc, ◌+◌, ◌≤◌, ◌<◌, length, get_or, drop}
+use Rattle.std.specs.Prelude.{◌≡◌, refl, ℕ, suc, ◌+◌, ◌≤◌, ◌<◌, length, get_or, drop, Ok, Err}
 use Rattle.std.proofs.Common.{sym, ◌∙◌, add-one, arith, drop_of_length-le, drop-cons}
 use Rattle.std.proofs.Math.Path.{ap}
 use mathlib.Core.List.{List, [], ◌∷◌, ◌++◌, append_assoc, append-nil}
 use Rattle.std.proofs.Math.ListN.{length-append}
-use Rattle.cones.specs.InTurn.{Turn, taken, denied, Turns, whole, refused, either, after, in_turn_from, in_turn}
+use Rattle.colour.specs.declared.refusal.Refusal.{Refusal}
+use Rattle.cones.specs.InTurn.{Turn, Turns, whole, refused, either, after, in_turn_from, in_turn}
 
 module _ {W : Type 0} where
   after_none : (t : Turns W) → t ≡ after [] t
@@ -57,14 +58,14 @@ module _ {P W : Type 0} (turn : P → Turn W) where
 
       abbrev going : Turn W → Turns W
       going t =
-          either t (λ (v : W). after (v ∷ []) (in_turn_from turn (suc i) (drop (suc i) ps))) (λ (n : ℕ). refused n i)
+          either t (λ (v : W). after (v ∷ []) (in_turn_from turn (suc i) (drop (suc i) ps))) (λ (n : Refusal). refused n i)
 
-      pub passed-refused : {n : ℕ} → turn p ≡ denied n → in_turn turn ps ≡ refused n i
+      pub passed-refused : {n : Refusal} → turn p ≡ Err n → in_turn turn ps ≡ refused n i
       unfolding in_turn_from
       passed-refused g = at_head ∙ ap (λ (t : Turn W). after k.so_far (going t)) g
 
       pub passed_more :
-          (v : W) {R : List W → Type 0} → turn p ≡ taken v →
+          (v : W) {R : List W → Type 0} → turn p ≡ Ok v →
           ((us : List W) → length us ≡ i → Q us → R (us ++ (v ∷ []))) → Passed ps (i + 1) R
       unfolding in_turn_from
       passed_more v g f =

@@ -11,7 +11,7 @@ use Rattle.std.proofs.Math.ListN.{get_or-map}
 use Rattle.rounding.specs.Every.{Every, every_at, every_map}
 use Rattle.rounding.proofs.Theorems.Mean.Laws.{mean_perm, mean_same}
 use Rattle.colour.specs.declared.conversion.GridColour.{GridColour}
-use Rattle.colour.specs.declared.placed.Reading.{Reading}
+use Rattle.colour.specs.Placed.{Reading}
 use Rattle.colour.specs.declared.white.White.{White}
 use Rattle.sheet.proofs.Theorems.Sheet.Facts.{sheet_self}
 use Rattle.sheet.specs.declared.differences.Differences.{Differences}

@@ -1,6 +1,8 @@
 -- What the loop that writes goes by: i figures are written, and searched for the farthest. Assumes nothing.
-use Rattle.std.specs.Prelude.{◌≡◌, List, map, ℕ, ◌+◌, ◌^◌, ◌≤◌, ◌<◌, Float, pos, length, get_or, set}
-use Rattle.std.proofs.Common.{sym, ap, ◌∙◌}
+use Rattle.std.specs.Prelude.{◌≡◌, List, [], ◌++◌, map, ℕ, ◌+◌, ◌^◌, ◌≤◌, ◌<◌, Float, pos, length, get_or, set}
+use Rattle.std.specs.Prelude.{take, drop}
+use Rattle.std.proofs.Common.{sym, ap, ◌∙◌, arith, length-take-le, drop_of_length-le}
+use mathlib.Core.List.{append-nil}
 use Rattle.std.proofs.lemmas.List.{length-map}
 use Rattle.std.proofs.Math.ListN.{get_or-map}
 use Rattle.rounding.specs.Every.{every_at}
@@ -53,15 +55,43 @@ module _ (ds : List ℕ) (de : List Float) (enough : length ds ≤ length de) wh
 
 -- ---- the slice has an entry for each cone, and entry i is that of cone i
 
-module _ {l c : ℕ} {M : GridColour} {xs ys zs : List Float} {cs : List GridColour} {de : List Float}
-    (room : Room l c M xs ys zs cs de) where
-  pub room-count : length (differences_from l c M cs) ≡ length xs
+module _ {l c : ℕ} {M : GridColour} {n : ℕ} {cs : List GridColour} {de : List Float} (room : Room l c M n cs de) where
+  pub room-count : length (differences_from l c M cs) ≡ n
   room-count = length-map cs (difference_from l c M) ∙ room.count
 
   pub room-enough : length (differences_from l c M cs) ≤ length de
   room-enough = rw room-count room.enough
 
-  module _ (i : ℕ) (few : i < length xs) where
+  -- the part of the slice that is written has m entries
+  module _ {m : ℕ} (em : m ≡ n) where
+    part-length : length (take m de) ≡ n
+    part-length = length-take-le m de (rw em room.enough) ∙ em
+
+    pub part-enough : length (differences_from l c M cs) ≤ length (take m de)
+    part-enough = omega (arith, room-count, part-length)
+
+    pub part_few : {i : ℕ} → i < length (take m de) → i < n
+    part_few h = omega (arith, part-length, h)
+
+    pub part_count : {i : ℕ} → length (take m de) ≤ i → length (differences_from l c M cs) ≤ i
+    part_count h = omega (arith, room-count, part-length, h)
+
+    -- and the rest is kept
+    pub figures_of_part :
+        {f : Far} {now : List Float} → Figures (differences_from l c M cs) (take m de) f now →
+        Figures (differences_from l c M cs) de f (now ++ drop m de)
+    figures_of_part {now = now} g =
+        let vs : List Float = map value (differences_from l c M cs) in
+        let count : length vs ≡ m = length-map (differences_from l c M cs) value ∙ room-count ∙ sym em in
+        let none : drop (length vs) (take m de) ≡ [] =
+        drop_of_length-le (take m de) (omega (arith, count, part-length, em)) in
+        let is : now ≡ vs = g.written ∙ ap (λ (r : List Float). vs ++ r) none ∙ append-nil vs in
+        record {
+          far = g.far;
+          written = ap (λ (r : List Float). r ++ drop m de) is ∙ ap (λ (k : ℕ). vs ++ drop k de) (sym count);
+        }
+
+  module _ (i : ℕ) (few : i < n) where
     pub has-colour : i < length cs
     has-colour = rw room.count few
 

@@ -1,8 +1,9 @@
 -- docs/SCOPE.md 13.2 to 13.4: what an accepted sort hands back is the sheet's, each figure exactly its units divided by
 -- 2 ^ 20. Assumes nothing.
 use Rattle.std.specs.Prelude.{◌≡◌, refl, List, [], ◌∷◌, map, ℕ, suc, ◌^◌, ◌≤◌, ◌<◌, Float, ℤ, pos, length, get_or}
+use Rattle.std.specs.Prelude.{Ok, Some}
 use Rattle.std.proofs.Math.Path.{sym, subst}
-use Rattle.std.proofs.Common.{ap, ◌∙◌, ⊎_elim, not-suc-le-zero, le_of_suc-le-suc, arith}
+use Rattle.std.proofs.Common.{ap, ◌∙◌, not-suc-le-zero, le_of_suc-le-suc, arith}
 use Prim.Native.Nat as Nat
 use Rattle.std.proofs.Math.ListN.{drop, get_or-append}
 use Rattle.std.proofs.lemmas.List.{length-map}
@@ -12,19 +13,16 @@ use Rattle.rounding.specs.Signed.{∣◌∣}
 use Rattle.reading.specs.Grid.{value_of}
 use Rattle.reading.proofs.Theorems.Grid.Laws.{value_exact}
 use Rattle.colour.specs.Conversion.Ranges.{OnGrid}
-use Rattle.colour.specs.Placed.{place}
+use Rattle.colour.specs.Placed.{place, Reading}
+use Rattle.colour.proofs.Theorems.Refusal.{number-some}
 use Rattle.colour.specs.White.{white_numbered}
 use Rattle.colour.specs.declared.conversion.GridColour.{GridColour}
-use Rattle.colour.specs.declared.placed.Placed.TheVariants.{At}
-use Rattle.colour.specs.declared.placed.Reading.{Reading}
 use Rattle.colour.specs.declared.white.White.{White}
-use Rattle.colour.specs.declared.white.Numbered.TheVariants as W
 use Rattle.cones.specs.InTurn.{Turns, whole, refused, number_of}
 use Rattle.cones.proofs.Theorems.InTurn.Exactly.{AllTaken, taken-length, taken_at, whole_exactly}
 use Rattle.cones.specs.Cones.{readings_of, no_reading, turn_in, cones_in, no_colour}
-use Rattle.cones.proofs.Theorems.Cones.Exactly.{cone_refused_by}
-use Rattle.cones.proofs.Theorems.Cones.Laws.{readings_length, taken_of, taken_on_grid}
-use Rattle.cones.specs.declared.Kind.{Kind}
+use Rattle.cones.proofs.Theorems.Cones.Laws.{readings_length, taken_on_grid}
+use Rattle.colour.specs.declared.placed.Space.{Space}
 use Rattle.standard.specs.Figures.{zero}
 use Rattle.standard.proofs.Theorems.Figures.Exact.{Exact}
 use Rattle.delivery.specs.declared.sorted.Sorted.{Sorted}
@@ -43,15 +41,15 @@ pub record Handed (z : ℤ) (x : Float) : Type 0 where
   pub exact : Exact z x
 
 -- what was sorted: a white and the colours of all cones in it, l and c in their ranges
-pub record Delivery (k : Kind) (white l c : ℕ) (xs ys zs de : List Float) : Type 0 where
+pub record Delivery (k : Space) (white l c : ℕ) (xs ys zs de : List Float) : Type 0 where
   pub call : CallIn l c xs ys zs de
   pub in_white : White
-  pub white_is : white_numbered white ≡ W.Is in_white
+  pub white_is : white_numbered white ≡ Some in_white
   pub colours : List GridColour
   -- each cone is read and placed at its colour
   pub placed : AllTaken (turn_in in_white) (readings_of k xs ys zs) colours
 
-module _ {k : Kind} {white l c : ℕ} {xs ys zs de : List Float} (d : Delivery k white l c xs ys zs de) where
+module _ {k : Space} {white l c : ℕ} {xs ys zs de : List Float} (d : Delivery k white l c xs ys zs de) where
   abbrev pub mean : GridColour
   mean = mean_colour d.colours
 
@@ -90,11 +88,9 @@ module _ {k : Kind} {white l c : ℕ} {xs ys zs de : List Float} (d : Delivery k
 
   -- the reading of cone i is placed at its colour
   pub cone-placed :
-      (i : ℕ) → i < length xs → place d.in_white (get_or (readings_of k xs ys zs) i no_reading) ≡ At (cone i)
+      (i : ℕ) → i < length xs → place d.in_white (get_or (readings_of k xs ys zs) i no_reading) ≡ Ok (cone i)
   cone-placed i few =
-      taken_of
-      (taken_at (turn_in d.in_white) d.placed i no_reading no_colour
-      (rw (readings_length k xs ys zs d.call.shape.even) few))
+      taken_at (turn_in d.in_white) d.placed i no_reading no_colour (rw (readings_length k xs ys zs d.call.shape.even) few)
 
   pub mean_in_range : OnGrid mean
   mean_in_range = mean_on_grid (omega (arith, colours-count, d.call.shape.some)) colours_on_grid
@@ -112,7 +108,7 @@ map_at f [] i d e l = absurd (not-suc-le-zero l)
 map_at f (x ∷ xs) Nat.zero d e l = refl
 map_at f (x ∷ xs) (suc i) d e l = map_at f xs i d e (le_of_suc-le-suc l)
 
-module _ {k : Kind} {white l c : ℕ} {xs ys zs de : List Float} (d : Delivery k white l c xs ys zs de) where
+module _ {k : Space} {white l c : ℕ} {xs ys zs de : List Float} (d : Delivery k white l c xs ys zs de) where
   abbrev all : List ℕ
   all = differences l c d.colours
 
@@ -167,12 +163,12 @@ module _ {k : Kind} {white l c : ℕ} {xs ys zs de : List Float} (d : Delivery k
 
 -- ---- of every accepted sort
 
-module _ (k : Kind) (white l c : ℕ) (xs ys zs de : List Float) where
+module _ (k : Space) (white l c : ℕ) (xs ys zs de : List Float) where
   abbrev Comes_back : Sorted → List Float → Type 0
   Comes_back s left = (d : Delivery k white l c xs ys zs de) × HandedBack d s left
 
   whole_handed :
-      (w : White) → white_numbered white ≡ W.Is w → CallIn l c xs ys zs de → (t : Turns GridColour) →
+      (w : White) → white_numbered white ≡ Some w → CallIn l c xs ys zs de → (t : Turns GridColour) →
       cones_in w (readings_of k xs ys zs) ≡ t → number_of t ≡ 0 → Comes_back (answer_of l c t) (left_in l c de t)
   whole_handed w e call (whole cs) is none =
       let d : Delivery k white l c xs ys zs de =
@@ -184,8 +180,7 @@ module _ (k : Kind) (white l c : ℕ) (xs ys zs de : List Float) where
         placed = (whole_exactly (turn_in w) no_reading (readings_of k xs ys zs) cs).0 is;
       } in
       (d, handed_back d)
-  whole_handed w e call (refused n i) is none =
-      absurd (⊎_elim (λ h. omega arith) (⊎_elim (λ h. omega arith) (λ h. omega arith)) (cone_refused_by w _ is))
+  whole_handed w e call (refused f i) is none = absurd (number-some f none)
 
   -- THE SHEET'S, DIGIT FOR DIGIT
   pub sorted_by_the_sheet :

@@ -1,6 +1,6 @@
 -- docs/SCOPE.md 13.6, of sorts as they are called: which are accepted; two sorts of the same cones in another order; a
 -- sort whose cones all have one reading. Assumes nothing.
-use Rattle.std.specs.Prelude.{◌≡◌, ◌↔◌, ℕ, ◌≤◌, ◌<◌, Float, pos, get_or}
+use Rattle.std.specs.Prelude.{◌≡◌, ◌↔◌, ℕ, ◌≤◌, ◌<◌, Float, pos, get_or, Ok, Some}
 use Rattle.std.proofs.Common.{sym, ap₂, subst, ◌∙◌, arith}
 use Rattle.std.proofs.Math.Path.{ap}
 use mathlib.Core.List.{List, Permᴰ}
@@ -9,19 +9,15 @@ use Rattle.rounding.specs.Every.{Every, every_at}
 use Rattle.rounding.proofs.Theorems.Mean.Laws.{length_perm}
 use Rattle.reading.specs.Grid.{value_of}
 use Rattle.reading.proofs.Theorems.Reading.Cases.{reading_cases}
-use Rattle.colour.specs.Placed.{place}
+use Rattle.colour.specs.Placed.{place, Reading}
 use Rattle.colour.specs.White.{white_numbered}
 use Rattle.colour.specs.declared.conversion.GridColour.{GridColour}
-use Rattle.colour.specs.declared.placed.Placed.TheVariants.{At}
-use Rattle.colour.specs.declared.placed.Reading.{Reading}
 use Rattle.colour.specs.declared.white.White.{White}
-use Rattle.colour.specs.declared.white.Numbered.TheVariants.{Is}
 use Rattle.cones.specs.Zip.{Even}
-use Rattle.cones.specs.InTurn.{taken}
 use Rattle.cones.proofs.Theorems.InTurn.Exactly.{AllTaken, taken_at, taken_perm, taken_one, taken_same, whole_exactly}
 use Rattle.cones.specs.Cones.{readings_of, no_reading, turn_in, no_colour}
-use Rattle.cones.proofs.Theorems.Cones.Laws.{readings_length, taken_of}
-use Rattle.cones.specs.declared.Kind.{Kind}
+use Rattle.cones.proofs.Theorems.Cones.Laws.{readings_length}
+use Rattle.colour.specs.declared.placed.Space.{Space}
 use Rattle.standard.specs.Figures.{zero}
 use Rattle.delivery.specs.declared.sorted.Sorted.{Sorted}
 use Rattle.delivery.specs.Delivery.{difference_from}
@@ -33,7 +29,7 @@ use Rattle.delivery.proofs.Theorems.Sorted.Exact.{Delivery, mean, cone, DE, colo
 
 -- ---- ACCEPTED, EXACTLY THEN: every cone is placed, and the call is in order
 
-module _ (k : Kind) (white l c : ℕ) (xs ys zs de : List Float) {r : Sorted} {left : List Float}
+module _ (k : Space) (white l c : ℕ) (xs ys zs de : List Float) {r : Sorted} {left : List Float}
     (g : Sorts k white l c xs ys zs de r left) where
   answer_is : (d : Delivery k white l c xs ys zs de) → r ≡ sorted_of l c d.colours
   answer_is d =
@@ -61,7 +57,7 @@ pub record SameCones (rs ss : List Reading) (r s : Sorted) (left kept : List Flo
       (i j : ℕ) → i < length rs → j < length ss → get_or rs i no_reading ≡ get_or ss j no_reading →
       get_or left i zero ≡ get_or kept j zero
 
-module _ (k : Kind) (white l c : ℕ) (xs ys zs de us vs ws room : List Float) where
+module _ (k : Space) (white l c : ℕ) (xs ys zs de us vs ws room : List Float) where
   abbrev rs : List Reading
   rs = readings_of k xs ys zs
 
@@ -154,21 +150,21 @@ module _ (k : Kind) (white l c : ℕ) (xs ys zs de us vs ws room : List Float) w
 -- the mean is that reading's colour, every DE is 0.0, and no cone is farther than cone 0
 pub record OneReading (white : ℕ) (one : Reading) (r : Sorted) (left : List Float) : Type 0 where
   pub in_white : White
-  pub white_is : white_numbered white ≡ Is in_white
+  pub white_is : white_numbered white ≡ Some in_white
   pub colour : GridColour
-  pub placed : place in_white one ≡ At colour
+  pub placed : place in_white one ≡ Ok colour
   pub lightness : r.lightness ≡ value_of colour.L.0
   pub a : r.a ≡ value_of colour.a.0
   pub b : r.b ≡ value_of colour.b.0
   pub entry : (i : ℕ) → i < r.cones → get_or left i zero ≡ zero
   pub farthest : r.farthest ≡ 0
 
-module _ {k : Kind} {white l c : ℕ} {xs ys zs de : List Float} (d : Delivery k white l c xs ys zs de) {one : Reading}
+module _ {k : Space} {white l c : ℕ} {xs ys zs de : List Float} (d : Delivery k white l c xs ys zs de) {one : Reading}
     (same : Every (λ (r : Reading). r ≡ one) (readings_of k xs ys zs)) where
   some : 0 < length (readings_of k xs ys zs)
   some = rw (readings_length k xs ys zs d.call.shape.even) (omega (arith, d.call.shape.some))
 
-  turn_of_one : turn_in d.in_white one ≡ taken (cone d 0)
+  turn_of_one : turn_in d.in_white one ≡ Ok (cone d 0)
   turn_of_one =
       ap (turn_in d.in_white) (sym (every_at same 0 no_reading some))
       ∙ taken_at (turn_in d.in_white) d.placed 0 no_reading no_colour some
@@ -196,7 +192,7 @@ module _ {k : Kind} {white l c : ℕ} {xs ys zs de : List Float} (d : Delivery k
         in_white = d.in_white;
         white_is = d.white_is;
         colour = cone d 0;
-        placed = taken_of turn_of_one;
+        placed = turn_of_one;
         lightness = h.lightness.is ∙ ap (λ (m : GridColour). value_of m.L.0) mean_is;
         a = h.a.is ∙ ap (λ (m : GridColour). value_of m.a.0) mean_is;
         b = h.b.is ∙ ap (λ (m : GridColour). value_of m.b.0) mean_is;
@@ -211,7 +207,7 @@ module _ {k : Kind} {white l c : ℕ} {xs ys zs de : List Float} (d : Delivery k
       }
 
 pub sorted_of_one_reading :
-    (k : Kind) (white l c : ℕ) (xs ys zs de : List Float) {r : Sorted} {left : List Float} {one : Reading} →
+    (k : Space) (white l c : ℕ) (xs ys zs de : List Float) {r : Sorted} {left : List Float} {one : Reading} →
     Sorts k white l c xs ys zs de r left → r.number ≡ 0 →
     Every (λ (r : Reading). r ≡ one) (readings_of k xs ys zs) → OneReading white one r left
 sorted_of_one_reading k white l c xs ys zs de g none same =

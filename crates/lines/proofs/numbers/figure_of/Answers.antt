@@ -38,5 +38,5 @@ returns c =
     figure_is c.args.below c.args.m
     (elim c.if-below.branch [
       | then-below w ↦ w.result-is ∙ sym (ap shows w.if-below.true)
-      | else-below w ↦ w.result-is ∙ sym (ap shows w.if-below.false)
+      | else-below w ↦ w.result-is ∙ w.if-below.false ∙ sym (ap shows w.if-below.false)
     ])

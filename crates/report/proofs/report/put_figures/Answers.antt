@@ -1,5 +1,5 @@
 -- Four lines, one after the other, their numbers as they are shown. Assumes nothing.
-use Rattle.std.proofs.Common.{◌≡◌, Bool, false, List, ℕ, sym, ap, ◌∙◌, w64, to_z, of_z, rules}
+use Rattle.std.proofs.Common.{◌≡◌, refl, Bool, false, List, ℕ, sym, ap, ◌∙◌, w64, to_z, of_z, rules}
 use Rattle.std.specs.Prelude.{ℤ}
 use Rattle.sheet.specs.declared.differences.Differences.{Differences}
 use Rattle.text.specs.declared.decimal.Shown.{Shown}
@@ -29,46 +29,34 @@ module _ (withheld : Bool) (d : Differences) {DE DL DC DH : Shown}
 
 pub put_number-after_DE-requires : goal.put_number-after_DE-requires
 put_number-after_DE-requires c =
-    let d = c.args.d in
-    let L : c.signed_figure-DL.result ≡ signed_figure d.DL = as_read d.DL (search rules) c.signed_figure-DL.ensures in
-    let C : c.signed_figure-DC.result ≡ signed_figure d.DC = as_read d.DC (search rules) c.signed_figure-DC.ensures in
-    let H : c.signed_figure-DH.result ≡ signed_figure d.DH = as_read d.DH (search rules) c.signed_figure-DH.ensures in
-    room_first (row c.args.withheld d c.figure_of-DE.ensures L C H c.requires)
+    room_first (row c.args.withheld c.args.d c.figure_of.ensures refl refl refl c.requires)
 
 pub put_number-after_DL-requires : goal.put_number-after_DL-requires
 put_number-after_DL-requires c =
-    let d = c.args.d in
-    let L : c.signed_figure-DL.result ≡ signed_figure d.DL = as_read d.DL (search rules) c.signed_figure-DL.ensures in
-    let C : c.signed_figure-DC.result ≡ signed_figure d.DC = as_read d.DC (search rules) c.signed_figure-DC.ensures in
-    let H : c.signed_figure-DH.result ≡ signed_figure d.DH = as_read d.DH (search rules) c.signed_figure-DH.ensures in
-    room-second (row c.args.withheld d c.figure_of-DE.ensures L C H c.requires) c.put_number-after_DE.ensures
+    let DL = as_read c.args.d.DL (search rules) c.signed_figure.ensures in
+    room-second (row c.args.withheld c.args.d c.figure_of.ensures DL refl refl c.requires) c.put_number-after_DE.ensures
 
 pub put_chromatic-after_DC-requires : goal.put_chromatic-after_DC-requires
 put_chromatic-after_DC-requires c =
-    let d = c.args.d in
-    let L : c.signed_figure-DL.result ≡ signed_figure d.DL = as_read d.DL (search rules) c.signed_figure-DL.ensures in
-    let C : c.signed_figure-DC.result ≡ signed_figure d.DC = as_read d.DC (search rules) c.signed_figure-DC.ensures in
-    let H : c.signed_figure-DH.result ≡ signed_figure d.DH = as_read d.DH (search rules) c.signed_figure-DH.ensures in
-    room-third (row c.args.withheld d c.figure_of-DE.ensures L C H c.requires) c.put_number-after_DE.ensures
+    let DL = as_read c.args.d.DL (search rules) c.signed_figure.ensures in
+    let DC = as_read c.args.d.DC (search rules) c.signed_figure-2.ensures in
+    room-third (row c.args.withheld c.args.d c.figure_of.ensures DL DC refl c.requires) c.put_number-after_DE.ensures
     c.put_number-after_DL.ensures
 
 pub put_chromatic-requires : goal.put_chromatic-requires
 put_chromatic-requires c =
-    let d = c.args.d in
-    let L : c.signed_figure-DL.result ≡ signed_figure d.DL = as_read d.DL (search rules) c.signed_figure-DL.ensures in
-    let C : c.signed_figure-DC.result ≡ signed_figure d.DC = as_read d.DC (search rules) c.signed_figure-DC.ensures in
-    let H : c.signed_figure-DH.result ≡ signed_figure d.DH = as_read d.DH (search rules) c.signed_figure-DH.ensures in
-    room-fourth (row c.args.withheld d c.figure_of-DE.ensures L C H c.requires) c.put_number-after_DE.ensures
+    let DL = as_read c.args.d.DL (search rules) c.signed_figure.ensures in
+    let DC = as_read c.args.d.DC (search rules) c.signed_figure-2.ensures in
+    let DH = as_read c.args.d.DH (search rules) c.signed_figure-3.ensures in
+    room-fourth (row c.args.withheld c.args.d c.figure_of.ensures DL DC DH c.requires) c.put_number-after_DE.ensures
     c.put_number-after_DL.ensures c.put_chromatic-after_DC.ensures
 
 pub returns : goal.returns
 returns c =
-    let d = c.args.d in
-    let L : c.signed_figure-DL.result ≡ signed_figure d.DL = as_read d.DL (search rules) c.signed_figure-DL.ensures in
-    let C : c.signed_figure-DC.result ≡ signed_figure d.DC = as_read d.DC (search rules) c.signed_figure-DC.ensures in
-    let H : c.signed_figure-DH.result ≡ signed_figure d.DH = as_read d.DH (search rules) c.signed_figure-DH.ensures in
-    let room = row c.args.withheld d c.figure_of-DE.ensures L C H c.requires in
-    puts_as (sym (as_shown c.args.withheld d c.figure_of-DE.ensures L C H))
+    let DL = as_read c.args.d.DL (search rules) c.signed_figure.ensures in
+    let DC = as_read c.args.d.DC (search rules) c.signed_figure-2.ensures in
+    let DH = as_read c.args.d.DH (search rules) c.signed_figure-3.ensures in
+    puts_as (sym (as_shown c.args.withheld c.args.d c.figure_of.ensures DL DC DH))
     (puts_joined
-    (puts_four room c.put_number-after_DE.ensures c.put_number-after_DL.ensures c.put_chromatic-after_DC.ensures
-    c.put_chromatic.ensures))
+    (puts_four (row c.args.withheld c.args.d c.figure_of.ensures DL DC DH c.requires) c.put_number-after_DE.ensures
+    c.put_number-after_DL.ensures c.put_chromatic-after_DC.ensures c.put_chromatic.ensures))

@@ -1,15 +1,14 @@
 -- What callers use of the settings: that numbers name what they are the numbers of, and each range's ends as facts.
 -- Assumes nothing.
-use Rattle.std.specs.Prelude.{◌≡◌, refl, true, false, ℕ, ◌≤◌, ◌<◌, leb}
+use Rattle.std.specs.Prelude.{◌≡◌, refl, true, false, ℕ, ◌≤◌, ◌<◌, leb, Some}
 use borrow.Author.Tests.{le-leb, lt-leb, leb-true}
 use Rattle.colour.proofs.Theorems.Conversion.Laws.{both_true}
 use Rattle.sheet.specs.Settings.{number_of_formula, formula_numbered, within, is_factor, is_tolerance, Factor}
 use Rattle.sheet.specs.Settings.{Tolerance}
 use Rattle.sheet.specs.declared.formula.Formula.{Formula}
 use Rattle.sheet.specs.declared.formula.Formula.TheVariants.{CIELAB, CIE94, CMC}
-use Rattle.sheet.specs.declared.formula.NumberedFormula.TheVariants.{Is}
 
-pub formula-numbered : (f : Formula) → formula_numbered (number_of_formula f) ≡ Is f
+pub formula-numbered : (f : Formula) → formula_numbered (number_of_formula f) ≡ Some f
 unfolding formula_numbered
 formula-numbered CIELAB = refl
 formula-numbered CIE94 = refl

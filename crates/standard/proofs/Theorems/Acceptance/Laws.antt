@@ -2,22 +2,21 @@
 -- standard accepted. Assumes nothing.
 use Rattle.std.proofs.Math.Path.{◌≡◌, refl, sym, ap}
 use Rattle.std.proofs.Common.{◌∙◌, arith}
-use Rattle.std.specs.Prelude.{Bool, List, [], ◌∷◌, map, ℕ}
-use Rattle.std.proofs.Math.Bool.{true, false, cond}
-use borrow.Author.Tests.{eqb-true, eqb-false, ne_eqb}
-use Rattle.std.proofs.Math.Dec.{eqb}
-use Rattle.colour.specs.Placed.{refusal_of}
+use Rattle.std.specs.Prelude.{Bool, List, [], ◌∷◌, map, ℕ, Ok, Err}
+use Rattle.std.proofs.Math.Bool.{true, false}
+use Rattle.colour.specs.Refusal.{number_of_refusal, refusal_of, refusal_numbered}
+use Rattle.colour.specs.declared.refusal.Refusal.{Refusal}
+use Rattle.colour.specs.declared.refusal.Refusal.TheVariants as Why
+use Rattle.colour.proofs.Theorems.Refusal.{numbered-number, number-some}
 use Rattle.colour.specs.declared.conversion.GridColour.{GridColour}
-use Rattle.colour.specs.declared.placed.Placed.{Placed}
-use Rattle.colour.specs.declared.placed.Placed.TheVariants as P
+use Rattle.colour.specs.Placed.{Placed}
 use Rattle.sheet.specs.Settings.{is_factor, is_tolerance}
 use Rattle.sheet.proofs.Theorems.Settings.Laws.{factor_of, of_factor, tolerance_of, of_tolerance}
 use Rattle.sheet.specs.declared.settings.Settings.{Settings}
 use Rattle.standard.specs.declared.accept.Standard.{Standard}
-use Rattle.standard.specs.declared.accept.Acceptance.TheVariants.{Refused, Accepted}
 use Rattle.standard.specs.Refusals.{at_l, at_c, at_tolerance, number_at, first, first_of, refusal}
-use Rattle.standard.proofs.Theorems.Refusals.Laws.{first_zero, first_some, first_none, first_of-append}
-use Rattle.standard.specs.Acceptance.{range_faults, accept_faults, accepted, acceptance, number_of, Valid, ValidIn}
+use Rattle.standard.proofs.Theorems.Refusals.Laws.{first_zero, first_some, first_of-append}
+use Rattle.standard.specs.Acceptance.{range_faults, accept_faults, acceptance, Valid, ValidIn}
 use Rattle.standard.specs.Acceptance.{PlacedOn}
 
 -- ---- the ranges' own refusal: each way out
@@ -54,58 +53,64 @@ accept-refusal s p =
 
 module _ (s : Settings) where
   pub settings-refused :
-      (p : Placed) {n : ℕ} → n ≡ refusal (range_faults s.l s.c s.tolerance) → (n ≡ 0 → ⊥) →
-      Refused n ≡ acceptance s p
+      (p : Placed) (e : Refusal) → number_of_refusal e ≡ refusal (range_faults s.l s.c s.tolerance) →
+      Err e ≡ acceptance s p
   unfolding acceptance
-  settings-refused p {n} e h =
-      let is : refusal (accept_faults s p) ≡ n = accept-refusal s p ∙ rw (← e) (first_some (refusal_of p) h) in
-      rw (is, ne_eqb n 0 h)
+  settings-refused p e h =
+      let is : refusal (accept_faults s p) ≡ number_of_refusal e =
+      accept-refusal s p ∙ rw (← h) (first_some (refusal_of p) (number-some e)) in
+      rw (is, numbered-number e)
 
   module _ (in_range : refusal (range_faults s.l s.c s.tolerance) ≡ 0) where
-    pub reference-refused : (n : ℕ) → Refused n ≡ acceptance s (P.Refused n)
+    pub reference-refused : (e : Refusal) → Err e ≡ acceptance s (Err e)
     unfolding acceptance
-    reference-refused n = rw (accept-refusal s (P.Refused n), in_range) (go (eqb n 0) refl)
-      where
-        go : (b : Bool) → eqb n 0 ≡ b → Refused n ≡ cond b (Refused n) (Refused n)
-        go true e = refl
-        go false e = refl
+    reference-refused e = rw (accept-refusal s (Err e), in_range, numbered-number e)
 
-    pub is_accepted : (c : GridColour) → Accepted (record { settings = s; colour = c }) ≡ acceptance s (P.At c)
-    unfolding acceptance
-    is_accepted c = rw (accept-refusal s (P.At c), in_range)
+    pub is_accepted : (c : GridColour) → Ok (record { settings = s; colour = c }) ≡ acceptance s (Ok c)
+    unfolding acceptance refusal_numbered
+    is_accepted c = rw (accept-refusal s (Ok c), in_range)
 
 -- ---- what is accepted
+
+-- one of the numbers refuses, or all lie in their ranges
+data Ranged (l c tolerance : ℕ) : Type 0 where
+  out : (e : Refusal) → number_of_refusal e ≡ refusal (range_faults l c tolerance) → Ranged l c tolerance
+  within : refusal (range_faults l c tolerance) ≡ 0 → Ranged l c tolerance
+
+ranged : (l c tolerance : ℕ) → Ranged l c tolerance
+ranged l c tolerance = go (is_factor l) refl (is_factor c) refl (is_tolerance tolerance) refl
+  where
+    go :
+        (p : Bool) → is_factor l ≡ p → (q : Bool) → is_factor c ≡ q → (r : Bool) → is_tolerance tolerance ≡ r →
+        Ranged l c tolerance
+    go false hl q hc r ht = out Why.Factor (sym (l_out l c tolerance hl))
+    go true hl false hc r ht = out Why.Factor (sym (c_out l c tolerance hl hc))
+    go true hl true hc false ht = out Why.Tolerance (sym (tolerance_out l c tolerance hl hc ht))
+    go true hl true hc true ht = within (all_in l c tolerance hl hc ht)
 
 -- q is of these settings, and of a reference that is placed
 pub record Made (s : Settings) (p : Placed) (q : Standard) : Type 0 where
   pub in_range : refusal (range_faults s.l s.c s.tolerance) ≡ 0
   pub settings : q.settings ≡ s
-  pub placed : p ≡ P.At q.colour
+  pub placed : p ≡ Ok q.colour
 
 module _ (s : Settings) where
-  pub accepted_made : (p : Placed) {q : Standard} → acceptance s p ≡ Accepted q → Made s p q
-  unfolding acceptance
-  accepted_made (P.At c) {q} = go (eqb (refusal (accept_faults s (P.At c))) 0) refl
+  pub accepted_made : (p : Placed) {q : Standard} → acceptance s p ≡ Ok q → Made s p q
+  accepted_made p {q} = go p (ranged s.l s.c s.tolerance)
     where
-      go :
-          (b : Bool) → eqb (refusal (accept_faults s (P.At c))) 0 ≡ b →
-          cond b (Accepted (record { settings = s; colour = c })) (Refused (refusal (accept_faults s (P.At c))))
-          ≡ Accepted q → Made s (P.At c) q
-      go true e h =
+      go : (p : Placed) → Ranged s.l s.c s.tolerance → acceptance s p ≡ Ok q → Made s p q
+      go p (out e h) g =
+          let is = settings-refused s p e h in let no : ◌≡◌ {A = ℕ} 0 1 = cc in absurd (omega arith)
+      go (Err e) (within h) g =
+          let is = reference-refused s h e in let no : ◌≡◌ {A = ℕ} 0 1 = cc in absurd (omega arith)
+      go (Ok c) (within h) g =
+          let is = is_accepted s h c in
           let same : ◌≡◌ {A = Standard} (record { settings = s; colour = c }) q = cc in
           record {
-            in_range = (first_none _ _ (sym (accept-refusal s (P.At c)) ∙ eqb-true _ 0 e)).0;
+            in_range = h;
             settings = sym (ap (λ (x : Standard). x.settings) same);
-            placed = ap (λ (x : Standard). P.At x.colour) same;
+            placed = ap (λ (x : Standard). Ok x.colour) same;
           }
-      go false e h = let no : ◌≡◌ {A = ℕ} 0 1 = cc in absurd (omega arith)
-  accepted_made (P.Refused n) {q} = go (eqb (refusal (accept_faults s (P.Refused n))) 0)
-    where
-      go :
-          (b : Bool) → cond b (Refused n) (Refused (refusal (accept_faults s (P.Refused n)))) ≡ Accepted q →
-          Made s (P.Refused n) q
-      go true h = let no : ◌≡◌ {A = ℕ} 0 1 = cc in absurd (omega arith)
-      go false h = let no : ◌≡◌ {A = ℕ} 0 1 = cc in absurd (omega arith)
 
 -- numbers with no refusal lie in their ranges
 ranges_in :
@@ -134,38 +139,22 @@ accepted-valid s p on q e =
     }
 
 -- AND EVERY VALID STANDARD IS
-pub valid-accepted : (q : Standard) → Valid q → acceptance q.settings (P.At q.colour) ≡ Accepted q
+pub valid-accepted : (q : Standard) → Valid q → acceptance q.settings (Ok q.colour) ≡ Ok q
 valid-accepted q v =
     sym (is_accepted q.settings (all_in _ _ _ (of_factor v.l) (of_factor v.c) (of_tolerance v.tolerance))
     q.colour)
 
 -- its number is that of its first fault
-pub accept-number : (s : Settings) (p : Placed) → number_of (acceptance s p) ≡ refusal (accept_faults s p)
-unfolding acceptance
-accept-number s p = go (eqb (refusal (accept_faults s p)) 0) refl p refl
+pub accept-number : (s : Settings) (p : Placed) → refusal_of (acceptance s p) ≡ refusal (accept_faults s p)
+accept-number s p = go p (ranged s.l s.c s.tolerance)
   where
-    go :
-        (b : Bool) → eqb (refusal (accept_faults s p)) 0 ≡ b → (q : Placed) → p ≡ q →
-        number_of (cond b (accepted s q) (Refused (refusal (accept_faults s p)))) ≡ refusal (accept_faults s p)
-    go false e q h = refl
-    go true e (P.At c) h = sym (eqb-true _ 0 e)
-    go true e (P.Refused n) h =
-        let none : refusal (accept_faults s p) ≡ 0 = eqb-true _ 0 e in
-        let its : refusal_of p ≡ 0 =
-        (first_none (refusal (range_faults s.l s.c s.tolerance)) (refusal_of p) (sym (accept-refusal s p) ∙ none)
-        ).1 in
-        ap refusal_of (sym h) ∙ its ∙ sym none
+    go : (p : Placed) → Ranged s.l s.c s.tolerance → refusal_of (acceptance s p) ≡ refusal (accept_faults s p)
+    go p (out e h) =
+        ap refusal_of (sym (settings-refused s p e h))
+        ∙ sym (accept-refusal s p ∙ rw (← h) (first_some (refusal_of p) (number-some e)))
+    go (Err e) (within h) = ap refusal_of (sym (reference-refused s h e)) ∙ sym (accept-refusal s (Err e) ∙ rw h)
+    go (Ok c) (within h) = ap refusal_of (sym (is_accepted s h c)) ∙ sym (accept-refusal s (Ok c) ∙ rw h)
 
--- a refusal has a number, where the reference's has one
-pub refused_some :
-    (s : Settings) (p : Placed) → ((n : ℕ) → p ≡ P.Refused n → n ≡ 0 → ⊥) → {n : ℕ} → acceptance s p ≡ Refused n →
-    n ≡ 0 → ⊥
-unfolding acceptance
-refused_some s p some {n} = go (eqb (refusal (accept_faults s p)) 0) refl p refl
-  where
-    go :
-        (b : Bool) → eqb (refusal (accept_faults s p)) 0 ≡ b → (q : Placed) → p ≡ q →
-        cond b (accepted s q) (Refused (refusal (accept_faults s p))) ≡ Refused n → n ≡ 0 → ⊥
-    go false e q h g z = let is : refusal (accept_faults s p) ≡ n = cc in eqb-false _ 0 e (is ∙ z)
-    go true e (P.At c) h g z = let no : ◌≡◌ {A = ℕ} 0 1 = cc in omega arith
-    go true e (P.Refused m) h g z = let is : m ≡ n = cc in some m h (is ∙ z)
+-- a refusal has a number
+pub refused_some : (s : Settings) (p : Placed) {e : Refusal} → acceptance s p ≡ Err e → number_of_refusal e ≡ 0 → ⊥
+refused_some s p {e} h z = number-some e z

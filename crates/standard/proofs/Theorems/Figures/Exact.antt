@@ -1,6 +1,6 @@
 -- Every figure that is handed back is exactly its number of units divided by 2 ^ 20: none is beyond 2 ^ 53 units.
 -- Assumes nothing.
-use Rattle.std.specs.Prelude.{◌^◌, ℤ, pos, Float}
+use Rattle.std.specs.Prelude.{◌^◌, ℤ, pos, Float, Ok}
 use Rattle.std.proofs.Common.{arith}
 use Rattle.std.specs.Float.Ieee.Exact.{HasValue}
 use Rattle.rounding.specs.Signed.{∣◌∣, minus}
@@ -12,9 +12,7 @@ use Rattle.sheet.specs.Ranges.{ComparisonInRange}
 use Rattle.sheet.specs.Sheet.{semi_axes}
 use Rattle.sheet.proofs.Theorems.Sheet.Bounds.{semi_axes_of_grid, semi_axes_C_lt, comparison_in_range}
 use Rattle.standard.specs.declared.accept.Standard.{Standard}
-use Rattle.standard.specs.declared.accept.Acceptance.TheVariants.{Accepted}
 use Rattle.standard.specs.declared.judge.Judgement.{Judgement}
-use Rattle.standard.specs.declared.judge.Outcome.TheVariants.{Judged}
 use Rattle.standard.specs.declared.figures.ReferenceFigures.{ReferenceFigures}
 use Rattle.standard.specs.declared.figures.SpecimenFigures.{SpecimenFigures}
 use Rattle.standard.specs.Acceptance.{Valid}
@@ -37,7 +35,7 @@ pub record ReferenceExact (s : Standard) (F : ReferenceFigures) : Type 0 where
   pub SC : Exact (pos (semi_axes 20 s.settings.formula (at_places 20 s.colour)).SC) F.SC
   pub SH : Exact (pos (semi_axes 20 s.settings.formula (at_places 20 s.colour)).SH) F.SH
 
-pub reference-exact : (s : Standard) → Valid s → ReferenceExact s (reference_answer (Accepted s)).figures
+pub reference-exact : (s : Standard) → Valid s → ReferenceExact s (reference_answer (Ok s)).figures
 unfolding reference_answer reference_figures
 reference-exact s v =
     let R = s.colour in
@@ -67,7 +65,7 @@ pub record SpecimenExact (j : Judgement) (F : SpecimenFigures) : Type 0 where
 
 in_range_exact :
     (j : Judgement) → OnGrid j.test → ComparisonInRange j.comparison →
-    SpecimenExact j (specimen_answer (Judged j)).figures
+    SpecimenExact j (specimen_answer (Ok j)).figures
 unfolding specimen_answer specimen_figures
 in_range_exact j g h =
     record {
@@ -83,7 +81,7 @@ in_range_exact j g h =
 
 pub specimen-exact :
     (s : Standard) (T : GridColour) → Specimen s T →
-    SpecimenExact (judgement_of s T) (specimen_answer (Judged (judgement_of s T))).figures
+    SpecimenExact (judgement_of s T) (specimen_answer (Ok (judgement_of s T))).figures
 unfolding judgement_of
 specimen-exact s T h =
     in_range_exact (judgement_of s T) h.test (comparison_in_range s.settings.formula (in_range h))

@@ -1,18 +1,16 @@
 -- What callers use of a judgement: where it comes from, its number, and that its verdict is that of SCOPE 6.4 on its
 -- DE. Assumes nothing.
-use Rattle.std.specs.Prelude.{◌≡◌, refl, ℕ}
+use Rattle.std.specs.Prelude.{◌≡◌, refl, ℕ, Ok, Err}
 use Rattle.std.proofs.Common.{sym, ap, ◌∙◌, arith}
-use Rattle.colour.specs.Placed.{refusal_of}
+use Rattle.colour.specs.Refusal.{refusal_of}
 use Rattle.colour.specs.declared.conversion.GridColour.{GridColour}
-use Rattle.colour.specs.declared.placed.Placed.{Placed}
-use Rattle.colour.specs.declared.placed.Placed.TheVariants as P
+use Rattle.colour.specs.Placed.{Placed}
 use Rattle.sheet.specs.Ranges.{InRange}
 use Rattle.sheet.specs.Sheet.{sheet, comparison, verdict}
 use Rattle.sheet.proofs.Theorems.Sheet.Laws.{one_scale}
 use Rattle.standard.specs.declared.accept.Standard.{Standard}
 use Rattle.standard.specs.declared.judge.Judgement.{Judgement}
-use Rattle.standard.specs.declared.judge.Outcome.TheVariants.{Judged}
-use Rattle.standard.specs.Judgement.{judgement_of, outcome, number_of, Specimen}
+use Rattle.standard.specs.Judgement.{judgement_of, outcome, Specimen}
 
 -- what the sheet asks
 pub in_range : {s : Standard} {T : GridColour} → Specimen s T → InRange s.settings.l s.settings.c s.colour T
@@ -22,25 +20,25 @@ in_range h =
 -- j is the judgement by s of a test specimen that is placed
 pub record Says (s : Standard) (p : Placed) (j : Judgement) : Type 0 where
   pub standard : s ≡ j.standard
-  pub placed : p ≡ P.At j.test
+  pub placed : p ≡ Ok j.test
   pub is : j ≡ judgement_of j.standard j.test
 
-pub judged-says : (s : Standard) (p : Placed) {j : Judgement} → outcome s p ≡ Judged j → Says s p j
+pub judged-says : (s : Standard) (p : Placed) {j : Judgement} → outcome s p ≡ Ok j → Says s p j
 unfolding outcome judgement_of
-judged-says s (P.At T) {j} e =
+judged-says s (Ok T) {j} e =
     let same : judgement_of s T ≡ j = cc in
     record {
       standard = ap (λ (k : Judgement). k.standard) same;
-      placed = ap (λ (k : Judgement). P.At k.test) same;
+      placed = ap (λ (k : Judgement). Ok k.test) same;
       is = sym same ∙ ap (λ (k : Judgement). judgement_of k.standard k.test) same;
     }
-judged-says s (P.Refused n) e = let no : ◌≡◌ {A = ℕ} 0 1 = cc in absurd (omega arith)
+judged-says s (Err n) e = let no : ◌≡◌ {A = ℕ} 0 1 = cc in absurd (omega arith)
 
 -- its number is the test specimen's
-pub outcome-number : (s : Standard) (p : Placed) → number_of (outcome s p) ≡ refusal_of p
+pub outcome-number : (s : Standard) (p : Placed) → refusal_of (outcome s p) ≡ refusal_of p
 unfolding outcome
-outcome-number s (P.At T) = refl
-outcome-number s (P.Refused n) = refl
+outcome-number s (Ok T) = refl
+outcome-number s (Err n) = refl
 
 -- THE VERDICT IS THE RULE'S ON THE DE OF THE SHEET (SCOPE 6.4): tolerance and DE are of the standard's own formula, and
 -- so on one scale

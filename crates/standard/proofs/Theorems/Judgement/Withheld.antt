@@ -1,12 +1,11 @@
 -- docs/SCOPE.md 7.3, 10.4: exactly when a judgement withholds, and that no figure, name or verdict handed back goes by
 -- it. Beside it the judgement of the rule before version 1.3, by which the reference alone decided. Assumes nothing.
-use Rattle.std.specs.Prelude.{◌≡◌, refl, Bool, true, ◌↔◌}
+use Rattle.std.specs.Prelude.{◌≡◌, refl, Bool, true, ◌↔◌, Ok}
 use Rattle.std.proofs.Common.{ap}
 use Rattle.colour.specs.declared.conversion.GridColour.{GridColour}
 use Rattle.names.proofs.Theorems.Names.Withheld.{Withholds, withheld_exactly, withheld_by_reference, TestAlone, withheld_as_before}
 use Rattle.standard.specs.declared.accept.Standard.{Standard}
 use Rattle.standard.specs.declared.judge.Judgement.{Judgement}
-use Rattle.standard.specs.declared.judge.Outcome.TheVariants.{Judged}
 use Rattle.standard.specs.Judgement.{judgement_of}
 use Rattle.standard.specs.Figures.{specimen_answer}
 
@@ -32,7 +31,7 @@ withholding withheld j = record {
 
 -- NO FIGURE, NAME OR VERDICT THAT IS HANDED BACK GOES BY IT
 pub handed_back_the_same :
-    (withheld : Bool) (j : Judgement) → specimen_answer (Judged (withholding withheld j)) ≡ specimen_answer (Judged j)
+    (withheld : Bool) (j : Judgement) → specimen_answer (Ok (withholding withheld j)) ≡ specimen_answer (Ok j)
 unfolding specimen_answer
 handed_back_the_same withheld j = refl
 

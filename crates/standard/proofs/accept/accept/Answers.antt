@@ -1,17 +1,24 @@
 -- `accept::accept` meets its contract: one law of `Acceptance/Laws.antt` for each way out. Assumes nothing.
-use Rattle.std.proofs.Common.{sym, ap, ◌∙◌}
+use Rattle.std.proofs.Common.{sym, ap, ◌∙◌, rules}
+use Rattle.colour.specs.Refusal.{refusal_of}
 use Rattle.standard.specs.Acceptance.{acceptance}
 use Rattle.standard.proofs.Theorems.Acceptance.Laws.{settings-refused, reference-refused, is_accepted}
 use Rattle.standard.proofs.accept.accept.Goals as goal
 
-pub returns-then-n-ne0 : goal.returns-then-n-ne0
-returns-then-n-ne0 c = settings-refused _ _ c.range_refusal-n.ensures c.if-n-ne0.true
+pub returns-in_err-check_ranges : goal.returns-in_err-check_ranges
+returns-in_err-check_ranges c =
+    let h = settings-refused c.args.s c.args.reference c.in_err-check_ranges.field-0.0
+    (sym (ap refusal_of c.in_err-check_ranges.was) ∙ c.check_ranges.ensures) in
+    search rules
 
-pub returns-in-At : goal.returns-in-At
-returns-in-At c =
-    is_accepted _ (sym c.range_refusal-n.ensures ∙ c.if-n-ne0.false) _ ∙ sym (ap (acceptance c.args.s) c.in-At.is)
+pub returns-in_err-reference : goal.returns-in_err-reference
+returns-in_err-reference c =
+    let h = reference-refused c.args.s
+    (sym c.check_ranges.ensures ∙ ap refusal_of c.in_ok-check_ranges.was) c.in_err-reference.field-0.0 in
+    search rules
 
-pub returns-in-Refused : goal.returns-in-Refused
-returns-in-Refused c =
-    reference-refused _ (sym c.range_refusal-n.ensures ∙ c.if-n-ne0.false) _
-    ∙ sym (ap (acceptance c.args.s) c.in-Refused.is)
+pub returns : goal.returns
+returns c =
+    let h = is_accepted c.args.s
+    (sym c.check_ranges.ensures ∙ ap refusal_of c.in_ok-check_ranges.was) c.in_ok-reference.field-0 in
+    h ∙ sym (ap (acceptance c.args.s) c.in_ok-reference.was)

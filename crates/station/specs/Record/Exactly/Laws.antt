@@ -1,7 +1,7 @@
 -- The slice's numbers are those of a standard, unless one of them is outside. Assumes nothing.
 use Rattle.std.proofs.Math.Path.{◌≡◌, refl}
 use Rattle.std.proofs.Common.{sym, subst, ◌∙◌, true≢false, inl, inr, not-le_of_lt, arith, leb-false, eqb-true}
-use Rattle.std.specs.Prelude.{Bool, ◌&&◌, List, ◌↔◌, ◌⊎◌, ℕ, ◌*◌, ◌^◌, ◌<◌, eqb, ℤ, length, get_or}
+use Rattle.std.specs.Prelude.{Bool, ◌&&◌, List, ◌↔◌, ◌⊎◌, ℕ, ◌*◌, ◌^◌, ◌<◌, eqb, ℤ, length, get_or, Result, Ok, Err, Option, None}
 use Rattle.std.proofs.Math.Bool.{true, false, cond}
 use Rattle.std.proofs.lemmas.Bool.{eqb-false}
 use Rattle.rounding.specs.Signed.{∣◌∣, minus}
@@ -11,12 +11,10 @@ use Rattle.reading.specs.declared.quantity.Quantity.TheVariants.{Lightness, Oppo
 use Rattle.colour.specs.Conversion.{on_grid}
 use Rattle.colour.specs.Conversion.Ranges.{OnGrid}
 use Rattle.colour.specs.declared.conversion.GridColour.{GridColour}
-use Rattle.colour.specs.declared.placed.Placed.TheVariants as P
 use Rattle.sheet.specs.declared.settings.Settings.{Settings}
-use Rattle.standard.specs.declared.accept.SettingsOf.{SettingsOf}
-use Rattle.standard.specs.declared.accept.Acceptance.{Acceptance}
-use Rattle.station.specs.declared.Station.{Station}
-use Rattle.station.specs.declared.Station.TheVariants.{Empty}
+use Rattle.colour.specs.declared.refusal.Refusal.{Refusal}
+use Rattle.standard.specs.Acceptance.{Acceptance}
+use Rattle.standard.specs.declared.accept.Standard.{Standard}
 use Rattle.station.specs.Record.{two, colour_in, placed, held_as, held_by, decode}
 use Rattle.station.specs.Record.Laws.{decode-held, decode-other, placed_at, placed_on_grid}
 use Rattle.station.specs.Record.Exactly.{NoFormula, NoWhite, FactorsOut, ToleranceOut}
@@ -25,6 +23,7 @@ use Rattle.station.specs.Record.Exactly.{of_factors, of_tolerance, of_lightness,
 use Rattle.station.specs.Record.Exactly.Accepting.{Named, no_formula_lem, no_white_lem, are, names}
 use Rattle.station.specs.Record.Exactly.Accepting.{Accepts, factors_out, tolerance_out, reference_out}
 use Rattle.station.specs.Record.Exactly.Accepting.{accepts, accepting}
+use Rattle.colour.specs.declared.refusal.Refusal.TheVariants as Why
 
 data OffGrid (c : GridColour) : Type 0 where
   off_lightness : (minus c.L.0 ≡ true) ⊎ (120 * 2 ^ 20 < ∣ c.L.0 ∣) → OffGrid c
@@ -59,12 +58,12 @@ module _ (xs : List ℕ) where
   of_colour (off_a h) = of_a h
   of_colour (off_b h) = of_b h
 
-  off_placed : {n : ℕ} → placed (colour_in xs) ≡ P.Refused n → NoStandard xs
+  off_placed : {n : Refusal} → placed (colour_in xs) ≡ Err n → NoStandard xs
   unfolding placed
   off_placed {n} = go (on_grid (colour_in xs)) refl
     where
       go :
-          (b : Bool) → on_grid (colour_in xs) ≡ b → cond b (P.At (colour_in xs)) (P.Refused 6) ≡ P.Refused n →
+          (b : Bool) → on_grid (colour_in xs) ≡ b → cond b (Ok (colour_in xs)) (Err Why.OutOfRange) ≡ Err n →
           NoStandard xs
       go true e h = let no : ◌≡◌ {A = ℕ} 0 1 = cc in absurd (omega arith)
       go false e h = of_colour (off_grid (colour_in xs) e)
@@ -83,14 +82,14 @@ module _ (xs : List ℕ) where
   all_within n f w k t on (of_a h) = not-le_of_lt h on.a
   all_within n f w k t on (of_b h) = not-le_of_lt h on.b
 
-  placed-within : {c : GridColour} → placed (colour_in xs) ≡ P.At c → OnGrid (colour_in xs)
+  placed-within : {c : GridColour} → placed (colour_in xs) ≡ Ok c → OnGrid (colour_in xs)
   placed-within {c} e =
       subst (λ (d : GridColour). OnGrid d) (sym (placed_at (colour_in xs) e)) (placed_on_grid (colour_in xs) c e)
 
   -- what 20 bytes hold, by their numbers
   held :
-      length xs ≡ 20 → {q : SettingsOf} → Named (get_or xs 0 0) (get_or xs 1 0) (two xs 2) (two xs 4) (two xs 6) q →
-      held_by q (placed (colour_in xs)) ≡ Empty ↔ NoStandard xs
+      length xs ≡ 20 → {q : Result Settings Refusal} → Named (get_or xs 0 0) (get_or xs 1 0) (two xs 2) (two xs 4) (two xs 6) q →
+      held_by q (placed (colour_in xs)) ≡ None ↔ NoStandard xs
   held n (no_formula_lem h) = (λ e. of_formula h, λ g. refl)
   held n (no_white_lem f h) = (λ e. of_white h, λ g. refl)
   held n (are f g k w h) = go _ (accepting _ (placed (colour_in xs)))
@@ -98,7 +97,7 @@ module _ (xs : List ℕ) where
       s : Settings
       s = record { formula = k; white = w; l = two xs 2; c = two xs 4; tolerance = two xs 6 }
 
-      go : (a : Acceptance) → Accepts s (placed (colour_in xs)) a → held_as a ≡ Empty ↔ NoStandard xs
+      go : (a : Acceptance) → Accepts s (placed (colour_in xs)) a → held_as a ≡ None ↔ NoStandard xs
       go a (factors_out o) = (λ e. of_factors o, λ x. refl)
       go a (tolerance_out m o) = (λ e. of_tolerance o, λ x. refl)
       go a (reference_out m t j o) = (λ e. off_placed o, λ x. refl)
@@ -108,11 +107,11 @@ module _ (xs : List ℕ) where
       )
 
   -- A SLICE HOLDS NO STANDARD EXACTLY WHERE ITS LENGTH IS NOT 20 OR ONE OF ITS NUMBERS IS OUTSIDE ITS RANGE
-  pub no_standard : decode xs ≡ Empty ↔ NoStandard xs
+  pub no_standard : decode xs ≡ None ↔ NoStandard xs
   no_standard = go (eqb (length xs) 20) refl
     where
-      go : (b : Bool) → eqb (length xs) 20 ≡ b → decode xs ≡ Empty ↔ NoStandard xs
+      go : (b : Bool) → eqb (length xs) 20 ≡ b → decode xs ≡ None ↔ NoStandard xs
       go false h = (λ e. of_length (eqb-false _ 20 h), λ g. sym (decode-other xs (eqb-false _ 20 h)))
       go true h =
           let n = eqb-true _ 20 h in
-          subst (λ (q : Station). q ≡ Empty ↔ NoStandard xs) (decode-held xs n) (held n (names _ _ _ _ _))
+          subst (λ (q : Option Standard). q ≡ None ↔ NoStandard xs) (decode-held xs n) (held n (names _ _ _ _ _))

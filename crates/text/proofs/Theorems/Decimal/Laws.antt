@@ -1,11 +1,11 @@
 -- What callers use of decimals: their digits from the last one back, and their lengths. Assumes nothing.
 use Rattle.std.specs.Prelude.{◌≡◌, refl, [], ◌∷◌, ℕ, zero, suc, ◌+◌, ◌*◌, ◌/◌, ◌%◌, ◌^◌, ◌≤◌, ◌<◌, ◌⊎◌, length}
 use Rattle.std.proofs.Common.{sym, ap, ◌∙◌, add-one, inl, inr, ⊎_elim, eq-zero-or-pos, pow-suc, mul-le-mul_right, div-add-mod', div-lt_iff_lt-mul, arith, lt-ltb, le-ltb, length-append}
-use Rattle.std.proofs.Math.Nat.{one-le-pow, pow-zero, div-div-eq-div-mul}
+use Rattle.std.proofs.Math.Nat.{one-le-pow, pow-zero, pow-succ', div-div-eq-div-mul}
 use Rattle.rounding.specs.Fraction.{div-lt}
 use Rattle.rounding.specs.Nearest.{nearest_up}
 use Rattle.rounding.proofs.Theorems.Nearest.Laws.{nearest-le, nearest_more}
-use Rattle.text.specs.Decimal.{shown, last_digits, width_in, width, minus_sign, decimal_text}
+use Rattle.text.specs.Decimal.{shown, last_digits, width_in, width, whole_text, minus_sign, decimal_text}
 use Rattle.text.proofs.Theorems.Decimal.Nearest.{shown_by_the_rule}
 use Rattle.text.specs.declared.decimal.Shown.{Shown}
 
@@ -117,6 +117,18 @@ width_more n f h =
 pub width-le : (k n : ℕ) → 0 < k → n < 10 ^ k → width n ≤ k
 width-le zero n z h = absurd (omega arith)
 width-le (suc k) n z h = width_in_le 20 k n h
+
+-- a number between a power of ten and the next
+pub width_of_power : (k n : ℕ) → n < 10 ^ 20 → 10 ^ k ≤ n → n < 10 * 10 ^ k → width n ≡ k + 1
+width_of_power zero n few low high = width_small n (omega (arith, pow-zero 10))
+width_of_power (suc k) n few low high =
+    let some : 1 ≤ 10 ^ k = one-le-pow k 10 (omega arith) in
+    let scale : 10 ^ suc k ≡ 10 * 10 ^ k = pow-succ' 10 k in
+    let ih = width_of_power k (n / 10) (omega arith) (omega arith) (omega arith) in
+    width_more n few (omega arith) ∙ ap (λ (w : ℕ). w + 1) ih ∙ omega arith
+
+pub whole_length : (n : ℕ) → length (whole_text n) ≡ width n
+whole_length n = last_digits_length (width n) n
 
 -- ---- a decimal
 

@@ -1,8 +1,8 @@
 -- What a text's lines are, in other words, and what proofs go by of them. Assumes nothing.
-use Rattle.std.specs.Prelude.{ℕ, ◌≡◌, refl, Bool, true, false, cond, ◌≢◌, eqb}
+use Rattle.std.specs.Prelude.{ℕ, ◌≡◌, refl, Bool, true, false, cond, ◌≢◌, eqb, None, Some}
 use Rattle.std.proofs.Common.{sym, ap, ◌∙◌, eqb-true}
 use mathlib.Core.List.{List, [], ◌∷◌, ◌++◌, map, append_assoc, append-nil, cons≢nil}
-use Rattle.std.proofs.Math.Option.{none, some, none-ne-some, some-ne-none, some-injective}
+use Rattle.std.proofs.lemmas.Option.{none-some, same_Some}
 use Rattle.text.specs.Ascii.{ascii}
 use Rattle.text.specs.Bytes.{has, before, after, starts_with}
 use Rattle.text.proofs.Theorems.Bytes.Parts.{free, free-head, parted, free_before, free_of_none, starts_seam}
@@ -120,27 +120,27 @@ starts_first k key s f = starts_by k key s (has 10 s) refl f
 
 -- ---- the first line, ended or not
 
-last_unended : (s : List ℕ) {x : Line} → nth 1 (last_line s) ≡ some x → is_ended x ≡ false
+last_unended : (s : List ℕ) {x : Line} → nth 1 (last_line s) ≡ Some x → is_ended x ≡ false
 unfolding nth
-last_unended [] e = absurd (none-ne-some _ e)
-last_unended (y ∷ s) e = sym (ap is_ended (some-injective _ _ e))
+last_unended [] e = absurd (none-some _ e)
+last_unended (y ∷ s) e = sym (ap is_ended (same_Some _ _ e))
 
 module _ (s : List ℕ) where
-  pub first_ended : has 10 s ≡ true → nth 1 (lines_of s) ≡ some (ended (before 10 s))
+  pub first_ended : has 10 s ≡ true → nth 1 (lines_of s) ≡ Some (ended (before 10 s))
   unfolding nth
   first_ended h = rw (lines_of_has s h)
 
-  pub first_not_ended : has 10 s ≡ false → {x : Line} → nth 1 (lines_of s) ≡ some x → is_ended x ≡ false
+  pub first_not_ended : has 10 s ≡ false → {x : Line} → nth 1 (lines_of s) ≡ Some x → is_ended x ≡ false
   first_not_ended h e = last_unended s (sym (ap (λ (xs : List Line). nth 1 xs) (lines_of_none s h)) ∙ e)
 
-some_longer : (x : ℕ) (ls : List Line) (b : Bool) → nth 1 (cond b (ended [] ∷ ls) (longer x ls)) ≡ none → ⊥
+some_longer : (x : ℕ) (ls : List Line) (b : Bool) → nth 1 (cond b (ended [] ∷ ls) (longer x ls)) ≡ None → ⊥
 unfolding nth
-some_longer x ls true e = some-ne-none _ e
-some_longer x [] false e = some-ne-none _ e
-some_longer x (ended s ∷ ls) false e = some-ne-none _ e
-some_longer x (unended s ∷ ls) false e = some-ne-none _ e
+some_longer x ls true e = none-some _ (sym e)
+some_longer x [] false e = none-some _ (sym e)
+some_longer x (ended s ∷ ls) false e = none-some _ (sym e)
+some_longer x (unended s ∷ ls) false e = none-some _ (sym e)
 
 -- a text that is not empty has a line
-pub some_line : (x : ℕ) (s : List ℕ) → nth 1 (lines_of (x ∷ s)) ≡ none → ⊥
+pub some_line : (x : ℕ) (s : List ℕ) → nth 1 (lines_of (x ∷ s)) ≡ None → ⊥
 unfolding lines_of
 some_line x s e = some_longer x (lines_of s) (eqb x 10) e

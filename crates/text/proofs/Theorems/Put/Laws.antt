@@ -17,7 +17,7 @@ pub put-length : (xs : List ℕ) (at : ℕ) (s : List ℕ) → at + length s ≤
 unfolding put_at
 put-length xs at s h = simp (length-append, length-take, length-drop) (omega arith)
 
--- what a loop that copies byte by byte leaves
+-- what is left where s is pasted over a part that is as long
 pub paste_is_put : (xs : List ℕ) (at : ℕ) (s : List ℕ) → paste xs at s (length s) ≡ put_at xs at s
 unfolding put_at
 paste_is_put xs at s = rw take-length

@@ -4,5 +4,5 @@ use Rattle.text.specs.Decimal.{minus_sign}
 use Rattle.text.proofs.Theorems.Put.Laws.{puts_as, puts_nil}
 use Rattle.text.proofs.decimal.put_minus.Goals as goal
 
-pub returns : goal.returns
-returns c = puts_as (sym (ap minus_sign c.if-shows.false)) (puts_nil _ _)
+pub returns-else-shows : goal.returns-else-shows
+returns-else-shows c = puts_as (sym (ap minus_sign c.if-shows.false)) (puts_nil _ _)

@@ -1,13 +1,19 @@
 -- `number::digits` meets its contract: too few or too many bytes make no number. Assumes nothing.
-use Rattle.std.proofs.Common.{sym, ◌∙◌}
-use Rattle.text.specs.Number.Laws.{digits-numeral, digits_none_of_short, digits_none_of_long}
+use Rattle.std.specs.Prelude.{◌≡◌, ◌&&◌, leb, length}
+use Rattle.std.proofs.Common.{rules, tests, sym, ◌∙◌}
+use Rattle.text.specs.Number.{digits_of}
 use Rattle.text.proofs.number.digits.Goals as goal
 
-pub returns-then-s-lt1 : goal.returns-then-s-lt1
-returns-then-s-lt1 c = sym (digits_none_of_short _ _ c.if-s-lt1.true)
-
-pub returns-then-most-s : goal.returns-then-most-s
-returns-then-most-s c = sym (digits_none_of_long _ _ c.if-s-lt1.false c.if-most-s.true)
+pub returns-then-not-contains : goal.returns-then-not-contains
+unfolding digits_of
+returns-then-not-contains c =
+    let n = length c.args.s.now in
+    let e : c.contains.result ≡ leb 1 n && leb n c.args.most = search (rules, tests) in
+    rw (sym e ∙ c.if-not-contains.true)
 
 pub returns : goal.returns
-returns c = c.value_of_digits.ensures ∙ sym (digits-numeral _ _ c.if-s-lt1.false c.if-most-s.false)
+unfolding digits_of
+returns c =
+    let n = length c.args.s.now in
+    let e : c.contains.result ≡ leb 1 n && leb n c.args.most = search (rules, tests) in
+    rw (sym e ∙ c.if-not-contains.false) c.value_of_digits.ensures

@@ -1,27 +1,11 @@
 -- `number::signed` meets its contract: the decimal stands after the minus, if there is one. Assumes nothing.
-use Rattle.std.proofs.Common.{sym, ap, ◌∙◌}
-use Rattle.text.specs.Bytes.Laws.{length_le_of_starts}
-use Rattle.text.specs.Number.Laws.{number_in, signed_below, signed_above}
+use Rattle.std.proofs.Common.{◌∙◌}
+use Rattle.text.specs.Number.Laws.{signed_is}
 use Rattle.text.proofs.number.signed.Goals as goal
 
-pub slice_bounds-decimal-count : goal.slice_bounds-decimal-count
-slice_bounds-decimal-count c = length_le_of_starts _ _ (sym c.starts.ensures ∙ c.if-starts.true)
+pub returns-in_err-millionths : goal.returns-in_err-millionths
+returns-in_err-millionths c =
+    c.from_residual.ensures ∙ signed_is _ _ c.without_minus-below.ensures c.decimal.ensures c.in_err-millionths.was
 
-pub slice_bounds-decimal-start : goal.slice_bounds-decimal-start
-slice_bounds-decimal-start c = length_le_of_starts _ _ (sym c.starts.ensures ∙ c.if-starts.true)
-
-pub returns-in-Nothing : goal.returns-in-Nothing
-returns-in-Nothing c =
-    signed_below _ c.starts.ensures c.if-starts.true c.decimal.ensures (ap number_in c.in-Nothing.is)
-
-pub returns-in-Is : goal.returns-in-Is
-returns-in-Is c = signed_below _ c.starts.ensures c.if-starts.true c.decimal.ensures (ap number_in c.in-Is.is)
-
-pub returns-in-Nothing-decimal : goal.returns-in-Nothing-decimal
-returns-in-Nothing-decimal c =
-    signed_above _ c.starts.ensures c.if-starts.false c.decimal-else-starts.ensures
-    (ap number_in c.in-Nothing-decimal.is)
-
-pub returns-in-Is-decimal : goal.returns-in-Is-decimal
-returns-in-Is-decimal c =
-    signed_above _ c.starts.ensures c.if-starts.false c.decimal-else-starts.ensures (ap number_in c.in-Is-decimal.is)
+pub returns : goal.returns
+returns c = signed_is _ _ c.without_minus-below.ensures c.decimal.ensures c.in_ok-millionths.was

@@ -1,11 +1,10 @@
 -- A TICKET WITHOUT THE LINES L AND C is read as the one that has l=2.000 and c=1.000 in their places: as the same
 -- ticket (`right_as_written`); or, where its first two lines are right and it has at most 4,096 bytes with the two, as
 -- wrong at the same line, whose number is higher by two there (`as_written`). Assumes nothing.
-use Rattle.std.specs.Prelude.{ℕ, ◌+◌, ◌≤◌, ◌≡◌, Bool, true, false, cond, ◌&&◌, ◌↔◌, drop}
+use Rattle.std.specs.Prelude.{ℕ, ◌+◌, ◌≤◌, ◌≡◌, Bool, true, false, cond, ◌&&◌, ◌↔◌, drop, Option, None, Some, Ok, Err}
 use Rattle.std.proofs.Math.Path.{refl, sym, ap₂}
 use Rattle.std.proofs.Common.{ap, ◌∙◌, arith}
 use mathlib.Core.List.{List, [], ◌∷◌, ◌++◌}
-use Rattle.std.proofs.Math.Option.{Option, none, some}
 use Rattle.std.proofs.Math.ListN.{length, length-append}
 use Rattle.text.specs.Ascii.{ascii}
 use Rattle.text.specs.Bytes.{has, before, after, starts_with}
@@ -27,8 +26,7 @@ use Rattle.ticket.proofs.Theorems.Ticket.Grammar.Values.{free-formula, free-whit
 use Rattle.ticket.specs.Ticket.Laws.{factors_missing, factors_given, ticket_of_short}
 use Rattle.ticket.proofs.Theorems.Ticket.Print.Laws.{formula-read, white-read}
 use Rattle.ticket.specs.declared.lines.Ticket.{Ticket}
-use Rattle.ticket.specs.declared.lines.Parsed.{Parsed}
-use Rattle.ticket.specs.declared.lines.Parsed.TheVariants.{Right, Wrong}
+use Rattle.ticket.specs.Ticket.{Parsed, wrong_line}
 
 -- ---- the two texts, r being the text from the line tol on
 
@@ -43,12 +41,12 @@ written f w r = without f w (l_and_c r)
 
 -- the number of a wrong line, higher by two
 abbrev pub two_more : Parsed → Parsed
-two_more (Right t) = Right t
-two_more (Wrong n) = Wrong (n + 2)
+two_more (Ok t) = Ok t
+two_more (Err e) = wrong_line (e.0 + 2)
 
-right_of_two_more : (p : Parsed) {t : Ticket} → two_more p ≡ Right t → p ≡ Right t
-right_of_two_more (Right u) e = e
-right_of_two_more (Wrong n) e = absurd (wrong-right e)
+right_of_two_more : (p : Parsed) {t : Ticket} → two_more p ≡ Ok t → p ≡ Ok t
+right_of_two_more (Ok u) e = e
+right_of_two_more (Err w) e = absurd (wrong-right e)
 
 -- ---- the lines from tol on, counted from 5 and from 3
 
@@ -61,11 +59,11 @@ due_two_more m n key value later sooner e h s =
     go (has 10 s && starts_with key (before 10 s)) (value (drop (length key) (before 10 s)))
   where
     go : (b : Bool) (o : Option _) →
-        cond b (or_wrong m o (λ x. later x (after 10 s))) (Wrong m)
-        ≡ two_more (cond b (or_wrong n o (λ x. sooner x (after 10 s))) (Wrong n))
-    go false o = ap Wrong e
-    go true none = ap Wrong e
-    go true (some x) = h x (after 10 s)
+        cond b (or_wrong m o (λ x. later x (after 10 s))) (wrong_line m)
+        ≡ two_more (cond b (or_wrong n o (λ x. sooner x (after 10 s))) (wrong_line n))
+    go false o = ap wrong_line e
+    go true None = ap wrong_line e
+    go true (Some x) = h x (after 10 s)
 
 more_two_more : (t : Ticket) (s : List ℕ) → nothing_more 9 t s ≡ two_more (nothing_more 7 t s)
 unfolding nothing_more
@@ -108,17 +106,17 @@ module _ (f : Formula) (w : White) (r : List ℕ) where
   -- a right ticket is short, so no length is asked for
   pub right_as_written :
       starts_with (ascii "tol=") r ≡ true → {t : Ticket}
-      → (ticket_of (without f w r) ≡ Right t) ↔ (ticket_of (written f w r) ≡ Right t)
+      → (ticket_of (without f w r) ≡ Ok t) ↔ (ticket_of (written f w r) ≡ Ok t)
   unfolding line
   right_as_written tol {t} = (there, back)
     where
       more : length (written f w r) ≡ length (without f w r) + 16
       more = simp length-append (omega arith)
 
-      there : ticket_of (without f w r) ≡ Right t → ticket_of (written f w r) ≡ Right t
+      there : ticket_of (without f w r) ≡ Ok t → ticket_of (written f w r) ≡ Ok t
       there e = as_written tol (omega (arith, more, right-few (without f w r) e)) ∙ ap two_more e
 
-      back : ticket_of (written f w r) ≡ Right t → ticket_of (without f w r) ≡ Right t
+      back : ticket_of (written f w r) ≡ Ok t → ticket_of (without f w r) ≡ Ok t
       back e = right_of_two_more _ (sym (as_written tol (omega (arith, right-few (written f w r) e))) ∙ e)
 
 -- ---- every right ticket without the two lines is such a text

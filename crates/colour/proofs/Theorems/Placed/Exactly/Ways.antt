@@ -1,5 +1,5 @@
 -- A reading is refused by the first of its rules that holds, and placed where none does. Assumes nothing.
-use Rattle.std.specs.Prelude.{◌≡◌, refl, Bool, true, false, ◌&&◌, cond, ◌⊎◌, ℕ, ◌*◌, ◌^◌, ◌<◌, leb, ℤ, Float}
+use Rattle.std.specs.Prelude.{◌≡◌, refl, Bool, true, false, ◌&&◌, cond, ◌⊎◌, ℕ, ◌*◌, ◌^◌, ◌<◌, leb, ℤ, Float, Ok, Err}
 use Rattle.std.proofs.Common.{sym, ◌∙◌, inl, inr, ⊎_elim, not-le_of_lt, leb-true, leb-false}
 use Rattle.std.specs.Float.{nan, inf, fin}
 use Rattle.std.specs.Float.Ieee.{up, down}
@@ -10,35 +10,34 @@ use Rattle.reading.proofs.Theorems.Reading.Laws.{is_opponent_lem, opponent-le}
 use Rattle.reading.specs.declared.decimal.Decimal.{Decimal}
 use Rattle.reading.specs.declared.quantity.Quantity.{Quantity}
 use Rattle.reading.specs.declared.quantity.Quantity.TheVariants.{Opponent}
-use Rattle.reading.specs.declared.quantity.Units.{Units}
-use Rattle.reading.specs.declared.quantity.Units.TheVariants as U
+use Rattle.reading.specs.Reading.{Units}
+use Rattle.reading.specs.declared.quantity.ReadError.TheVariants as U
 use Rattle.colour.specs.declared.white.White.{White}
 use Rattle.colour.specs.declared.conversion.GridColour.{GridColour}
-use Rattle.colour.specs.declared.placed.Reading.{Reading}
-use Rattle.colour.specs.declared.placed.Reading.TheVariants as R
-use Rattle.colour.specs.declared.placed.Written.{Written}
-use Rattle.colour.specs.declared.placed.Written.TheVariants as W
-use Rattle.colour.specs.declared.placed.Placed.{Placed}
-use Rattle.colour.specs.declared.placed.Placed.TheVariants.{At, Refused}
-use Rattle.colour.specs.Placed.{take, accepted, converted, place_xyz, place_lab, place, place_written}
+use Rattle.colour.specs.Placed.{Reading}
+use Rattle.colour.specs.declared.placed.Values.TheVariants.{Xyz, Lab}
+use Rattle.colour.specs.Placed.{Written}
+use Rattle.colour.specs.Placed.{Placed}
+use Rattle.colour.specs.Placed.{take, accepted, converted, place_xyz, place_lab, place_by, place, place_written}
 use Rattle.colour.specs.Placed.Exactly.{IsNotFinite, NotFinite, FloatOutside, DecimalOutside}
 use Rattle.colour.specs.Placed.Exactly.{OutOfRange, WrittenOutOfRange}
 use Rattle.colour.specs.Placed.Exactly.{Beyond256, ComeBeyond, Beyond, WrittenBeyond}
 use Rattle.colour.specs.Placed.Exactly.{Read, not_finite, out, beyond, at}
+use Rattle.colour.specs.declared.refusal.Refusal.TheVariants as Why
 
 -- ---- one number
 
 data OfOne (NotFinite Outside : Type 0) : Units → Type 0 where
-  has : (z : ℤ) → ¬ NotFinite → ¬ Outside → OfOne NotFinite Outside (U.Of z)
-  no_number : NotFinite → OfOne NotFinite Outside U.NotFinite
-  outside : ¬ NotFinite → Outside → OfOne NotFinite Outside U.OutOfRange
+  has : (z : ℤ) → ¬ NotFinite → ¬ Outside → OfOne NotFinite Outside (Ok z)
+  no_number : NotFinite → OfOne NotFinite Outside (Err U.NotFinite)
+  outside : ¬ NotFinite → Outside → OfOne NotFinite Outside (Err U.OutOfRange)
 
 of_fraction : (r : Range) (below : Bool) (a c : ℕ) → OfOne ⊥ (limit r below * c < a) (in_units r below a c)
 of_fraction r below a c = go (leb a (limit r below * c)) refl
   where
     go :
         (b : Bool) → leb a (limit r below * c) ≡ b →
-        OfOne ⊥ (limit r below * c < a) (cond b (U.Of (rounded below (a * r.per_one) c)) U.OutOfRange)
+        OfOne ⊥ (limit r below * c < a) (cond b (Ok (rounded below (a * r.per_one) c)) (Err U.OutOfRange))
     go true e = has _ (λ n. n) (λ h. not-le_of_lt h (leb-true _ _ e))
     go false e = outside (λ n. n) (leb-false _ _ e)
 
@@ -55,10 +54,10 @@ of_decimal q d = of_fraction (range_of q) d.below d.millionths 1000000
 -- ---- three together
 
 data Taken (NotFinite Outside : Type 0) (u v w : Units) (next : (x y z : ℤ) → Placed) : Placed → Type 0 where
-  five : NotFinite → Taken NotFinite Outside u v w next (Refused 5)
-  six : ¬ NotFinite → Outside → Taken NotFinite Outside u v w next (Refused 6)
+  five : NotFinite → Taken NotFinite Outside u v w next (Err Why.NotANumber)
+  six : ¬ NotFinite → Outside → Taken NotFinite Outside u v w next (Err Why.OutOfRange)
   handed :
-      ¬ NotFinite → ¬ Outside → (x y z : ℤ) → u ≡ U.Of x → v ≡ U.Of y → w ≡ U.Of z →
+      ¬ NotFinite → ¬ Outside → (x y z : ℤ) → u ≡ Ok x → v ≡ Ok y → w ≡ Ok z →
       Taken NotFinite Outside u v w next (next x y z)
 
 neither : {A B C : Type 0} → ¬ A → ¬ B → ¬ C → ¬ (A ⊎ (B ⊎ C))
@@ -87,8 +86,8 @@ taken next (outside f o) (outside g p) (outside h q) = six (neither f g h) (inl 
 -- ---- a converted colour, and a whole reading
 
 data Conversion (c : GridColour) : Placed → Type 0 where
-  far : Beyond256 c → Conversion c (Refused 8)
-  near : ¬ (Beyond256 c) → Conversion c (At c)
+  far : Beyond256 c → Conversion c (Err Why.Beyond256)
+  near : ¬ (Beyond256 c) → Conversion c (Ok c)
 
 conversion : (c : GridColour) → Conversion c (accepted c)
 unfolding accepted
@@ -103,7 +102,7 @@ conversion c = go (is_within (range_of Opponent) c.a.0) refl (is_within (range_o
     go :
         (p : Bool) → is_within (range_of Opponent) c.a.0 ≡ p →
         (q : Bool) → is_within (range_of Opponent) c.b.0 ≡ q →
-        Conversion c (cond (p && q) (At c) (Refused 8))
+        Conversion c (cond (p && q) (Ok c) (Err Why.Beyond256))
     go false a q b = far (inl (beyond_of c.a.0 a))
     go true a false b = far (inr (beyond_of c.b.0 b))
     go true a true b = near (⊎_elim (inside c.a.0 a) (inside c.b.0 b))
@@ -133,9 +132,9 @@ lab-read (six n o) = out n o
 lab-read (handed n o x y z ex ey ez) = at _ n o (λ h. h)
 
 pub read : (w : White) (r : Reading) → Read (NotFinite r) (OutOfRange r) (Beyond w r) (place w r)
-unfolding place
-read w (R.Xyz x y z) = xyz-read w (taken (place_xyz w) (of_float _ x) (of_float _ y) (of_float _ z))
-read w (R.Lab l a b) = lab-read (taken place_lab (of_float _ l) (of_float _ a) (of_float _ b))
+unfolding place_by
+read w (Xyz x y z) = xyz-read w (taken (place_xyz w) (of_float _ x) (of_float _ y) (of_float _ z))
+read w (Lab l a b) = lab-read (taken place_lab (of_float _ l) (of_float _ a) (of_float _ b))
 
 -- with nothing that could fail to be finite
 finite : {N O B : Type 0} {p : Placed} → ¬ N → Read N O B p → Read ⊥ O B p
@@ -145,10 +144,10 @@ finite f (beyond n o h) = beyond (λ h. h) o h
 finite f (at c n o h) = at c (λ h. h) o h
 
 pub read-written : (w : White) (r : Written) → Read ⊥ (WrittenOutOfRange r) (WrittenBeyond w r) (place_written w r)
-unfolding place_written
-read-written w (W.Xyz x y z) =
+unfolding place_by
+read-written w (Xyz x y z) =
     finite (neither (λ h. h) (λ h. h) (λ h. h))
     (xyz-read w (taken (place_xyz w) (of_decimal _ x) (of_decimal _ y) (of_decimal _ z)))
-read-written w (W.Lab l a b) =
+read-written w (Lab l a b) =
     finite (neither (λ h. h) (λ h. h) (λ h. h))
     (lab-read (taken place_lab (of_decimal _ l) (of_decimal _ a) (of_decimal _ b)))

@@ -1,10 +1,10 @@
 -- A value that says something has no LF, and a number no space either, so neither parts it. Assumes nothing.
-use Rattle.std.specs.Prelude.{ℕ, ◌+◌, ◌*◌, ◌-◌, ◌<◌, ◌≡◌, Bool, true, false, cond, ◌&&◌, length}
+use Rattle.std.specs.Prelude.{ℕ, ◌+◌, ◌*◌, ◌-◌, ◌<◌, ◌≡◌, Bool, true, false, cond, ◌&&◌, length, Option, None, Some}
 use Rattle.std.proofs.Math.Path.{refl}
 use Rattle.std.proofs.Common.{ap, ◌∙◌, arith}
 use Rattle.std.proofs.lemmas.Bool.{false≢true}
 use mathlib.Core.List.{List, [], ◌∷◌}
-use Rattle.std.proofs.Math.Option.{Option, none, some, none-ne-some, some-injective}
+use Rattle.std.proofs.lemmas.Option.{none-some, same_Some}
 use Rattle.std.proofs.Math.Dec.{leb}
 use borrow.Author.Tests.{leb-true, ne_eqb}
 use Rattle.text.specs.Bytes.{same_bytes}
@@ -17,9 +17,9 @@ use Rattle.ticket.proofs.Theorems.Ticket.Grammar.Parted.{SignedParts, no_minus, 
 
 -- ---- a test that passed
 
-cond_some : {A : Type 0} (e : Bool) {o : Option A} {x : A} → cond e o none ≡ some x → (e ≡ true) × (o ≡ some x)
+cond_some : {A : Type 0} (e : Bool) {o : Option A} {x : A} → cond e o None ≡ Some x → (e ≡ true) × (o ≡ Some x)
 cond_some true h = (refl, h)
-cond_some false h = absurd (none-ne-some _ h)
+cond_some false h = absurd (none-some _ h)
 
 and_both : (e : Bool) {f : Bool} → e && f ≡ true → (e ≡ true) × (f ≡ true)
 and_both true h = (refl, h)
@@ -28,7 +28,7 @@ and_both false h = absurd (false≢true h)
 -- ---- a number has neither LF nor space
 
 module _ (b : ℕ) (small : b < 45) where
-  numeral-free : (s : List ℕ) (v : ℕ) {w : ℕ} → numeral v s ≡ some w → free b s ≡ true
+  numeral-free : (s : List ℕ) (v : ℕ) {w : ℕ} → numeral v s ≡ Some w → free b s ≡ true
   unfolding numeral
   numeral-free [] v h = refl
   numeral-free (d ∷ s) v h =
@@ -36,11 +36,11 @@ module _ (b : ℕ) (small : b < 45) where
       let low = leb-true 48 d (and_both (leb 48 d) g.0).0 in
       rw (ne_eqb d b (λ e. absurd (omega arith))) (numeral-free s (v * 10 + (d - 48)) g.1)
 
-  digits-free : (most : ℕ) (s : List ℕ) {w : ℕ} → digits_of most s ≡ some w → free b s ≡ true
+  digits-free : (most : ℕ) (s : List ℕ) {w : ℕ} → digits_of most s ≡ Some w → free b s ≡ true
   unfolding digits_of
   digits-free most s h = numeral-free s 0 (cond_some (leb 1 (length s) && leb (length s) most) h).1
 
-  pub decimal-free : (whole places : ℕ) (s : List ℕ) {w : ℕ} → decimal_of whole places s ≡ some w → free b s ≡ true
+  pub decimal-free : (whole places : ℕ) (s : List ℕ) {w : ℕ} → decimal_of whole places s ≡ Some w → free b s ≡ true
   decimal-free whole places s h = go (decimal_parts whole places s h)
     where
       go : DecimalParts whole places s → free b s ≡ true
@@ -49,7 +49,7 @@ module _ (b : ℕ) (small : b < 45) where
           let after : free b (46 ∷ t) ≡ true = rw (ne_eqb 46 b (λ q. absurd (omega arith))) (digits-free places t ht) in
           rw e (free-append b u (46 ∷ t) (digits-free whole u hu) after)
 
-  pub signed-free : (s : List ℕ) {x : Decimal} → signed_of s ≡ some x → free b s ≡ true
+  pub signed-free : (s : List ℕ) {x : Decimal} → signed_of s ≡ Some x → free b s ≡ true
   signed-free s h = go (signed_parts s h)
     where
       go : SignedParts s → free b s ≡ true
@@ -60,12 +60,12 @@ module _ (b : ℕ) (small : b < 45) where
 
 module _ {A : Type 0} (name : A → List ℕ) where
   named_by :
-      (s : List ℕ) (y : A) (e : Bool) {o : Option A} {x : A} → same_bytes s (name y) ≡ e → (o ≡ some x → s ≡ name x)
-      → cond e (some y) o ≡ some x → s ≡ name x
-  named_by s y true e ih h = same_is s (name y) e ∙ ap name (some-injective _ _ h)
+      (s : List ℕ) (y : A) (e : Bool) {o : Option A} {x : A} → same_bytes s (name y) ≡ e → (o ≡ Some x → s ≡ name x)
+      → cond e (Some y) o ≡ Some x → s ≡ name x
+  named_by s y true e ih h = same_is s (name y) e ∙ ap name (same_Some _ _ h)
   named_by s y false e ih h = ih h
 
-  pub named_is : (xs : List A) (s : List ℕ) {x : A} → named name xs s ≡ some x → s ≡ name x
+  pub named_is : (xs : List A) (s : List ℕ) {x : A} → named name xs s ≡ Some x → s ≡ name x
   unfolding named
-  named_is [] s h = absurd (none-ne-some _ h)
+  named_is [] s h = absurd (none-some _ h)
   named_is (y ∷ xs) s h = named_by s y (same_bytes s (name y)) refl (named_is xs s) h

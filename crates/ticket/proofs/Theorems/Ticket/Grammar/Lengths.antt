@@ -1,14 +1,13 @@
 -- A text of a ticket's lines is short: it has at most 148 bytes. Assumes nothing.
-use Rattle.std.specs.Prelude.{ℕ, ◌+◌, ◌≤◌, ◌≡◌, List, [], ◌∷◌, length}
+use Rattle.std.specs.Prelude.{ℕ, ◌+◌, ◌≤◌, ◌≡◌, List, [], ◌∷◌, length, Some, Ok}
 use Rattle.std.proofs.Common.{⊎_elim, length-append, arith}
-use Rattle.std.proofs.Math.Option.{some}
 use Rattle.text.specs.Names.{formula_name, white_name}
 use Rattle.text.specs.Number.{decimal_of, signed_of}
 use Rattle.text.specs.Number.Laws.{digits_lt}
 use Rattle.text.specs.Put.{line}
 use Rattle.text.proofs.Theorems.Put.Laws.{line-length}
 use Rattle.reading.specs.declared.decimal.Decimal.{Decimal}
-use Rattle.colour.specs.declared.placed.Written.{Written}
+use Rattle.colour.specs.Placed.{Written}
 use Rattle.colour.specs.declared.white.White.{White}
 use Rattle.colour.specs.declared.white.White.TheVariants.{D65Ten, D65Two, CTen, CTwo}
 use Rattle.sheet.specs.declared.formula.Formula.{Formula}
@@ -19,15 +18,14 @@ use Rattle.ticket.proofs.Theorems.Ticket.Grammar.Free.{named_is}
 use Rattle.ticket.proofs.Theorems.Ticket.Grammar.Parted.{DecimalParts, no_point, point, decimal_parts}
 use Rattle.ticket.proofs.Theorems.Ticket.Grammar.Parted.{SignedParts, no_minus, minus, signed_parts}
 use Rattle.ticket.proofs.Theorems.Ticket.Grammar.Right.{right_exactly}
-use Rattle.ticket.specs.declared.value.Space.{Space}
-use Rattle.ticket.specs.declared.value.Space.TheVariants.{Xyz, Lab}
+use Rattle.colour.specs.declared.placed.Space.{Space}
+use Rattle.colour.specs.declared.placed.Space.TheVariants.{Xyz, Lab}
 use Rattle.ticket.specs.declared.lines.Ticket.{Ticket}
-use Rattle.ticket.specs.declared.lines.Parsed.TheVariants.{Right}
 
 -- ---- numbers
 
 decimal-few :
-    (whole places : ℕ) (s : List ℕ) {w : ℕ} → decimal_of whole places s ≡ some w → length s ≤ whole + 1 + places
+    (whole places : ℕ) (s : List ℕ) {w : ℕ} → decimal_of whole places s ≡ Some w → length s ≤ whole + 1 + places
 decimal-few whole places s h = go (decimal_parts whole places s h)
   where
     go : DecimalParts whole places s → length s ≤ whole + 1 + places
@@ -37,7 +35,7 @@ decimal-few whole places s h = go (decimal_parts whole places s h)
         let after = (digits_lt places t ht).few in
         rw e (omega (arith, length-append u (46 ∷ t)))
 
-signed-few : (s : List ℕ) {x : Decimal} → signed_of s ≡ some x → length s ≤ 11
+signed-few : (s : List ℕ) {x : Decimal} → signed_of s ≡ Some x → length s ≤ 11
 signed-few s h = go (signed_parts s h)
   where
     go : SignedParts s → length s ≤ 11
@@ -112,5 +110,5 @@ consists-few {t} k =
     (λ e. rw e.0 (omega (arith, text-few t k.value k.said without_l_and_c)))
     k.text
 
-pub right-few : (s : List ℕ) {t : Ticket} → ticket_of s ≡ Right t → length s ≤ 148
+pub right-few : (s : List ℕ) {t : Ticket} → ticket_of s ≡ Ok t → length s ≤ 148
 right-few s {t} e = consists-few ((right_exactly s t).0 e)

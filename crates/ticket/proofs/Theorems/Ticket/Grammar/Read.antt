@@ -1,9 +1,8 @@
 -- A text that consists of a ticket's lines is read as that ticket. Assumes nothing.
-use Rattle.std.specs.Prelude.{ℕ, ◌+◌, ◌≤◌, ◌≡◌, true, length}
+use Rattle.std.specs.Prelude.{ℕ, ◌+◌, ◌≤◌, ◌≡◌, true, length, Option, Some, Ok}
 use Rattle.std.proofs.Math.Path.{refl, sym}
 use Rattle.std.proofs.Common.{ap, ◌∙◌, ⊎_elim}
 use mathlib.Core.List.{List, [], ◌∷◌, ◌++◌, append_assoc}
-use Rattle.std.proofs.Math.Option.{Option, some}
 use Rattle.std.proofs.Math.Seq.{drop-append_seam}
 use Rattle.text.specs.Ascii.{ascii}
 use Rattle.text.specs.Bytes.{starts_with}
@@ -18,12 +17,11 @@ use Rattle.ticket.specs.Ticket.Grammar.{Place, key, all_places, without_l_and_c,
 use Rattle.ticket.proofs.Theorems.Ticket.Grammar.Values.{of_said, says-free}
 use Rattle.ticket.specs.Ticket.Laws.{factors_missing, factors_given, ticket_of_short}
 use Rattle.ticket.specs.declared.lines.Ticket.{Ticket}
-use Rattle.ticket.specs.declared.lines.Parsed.{Parsed}
-use Rattle.ticket.specs.declared.lines.Parsed.TheVariants.{Right}
+use Rattle.ticket.specs.Ticket.{Parsed}
 
 pub due-line :
     {A : Type 0} (n : ℕ) (key v rest : List ℕ) (value : List ℕ → Option A) (next : A → List ℕ → Parsed) {x : A}
-    → free 10 key ≡ true → free 10 v ≡ true → value v ≡ some x → due n key value next (line key v ++ rest) ≡ next x rest
+    → free 10 key ≡ true → free 10 v ≡ true → value v ≡ Some x → due n key value next (line key v ++ rest) ≡ next x rest
 unfolding due line
 due-line n key v rest value next hk hv e =
     let l = key ++ v in
@@ -52,7 +50,7 @@ key-free Place.test = refl
 module _ (t : Ticket) (value : Place → List ℕ) (said : (p : Place) → Says t p (value p)) where
   due-said :
       {A : Type 0} (n : ℕ) (p : Place) (rest : List ℕ) (says : List ℕ → Option A) (next : A → List ℕ → Parsed) {x : A}
-      → says (value p) ≡ some x → due n (key p) says next (line (key p) (value p) ++ rest) ≡ next x rest
+      → says (value p) ≡ Some x → due n (key p) says next (line (key p) (value p) ++ rest) ≡ next x rest
   due-said n p rest says next e =
       due-line n (key p) (value p) rest says next (key-free p) (says-free t p (value p) (said p)) e
 
@@ -62,7 +60,7 @@ module _ (t : Ticket) (value : Place → List ℕ) (said : (p : Place) → Says 
   last_lines :
       (n : ℕ) (p : Settings) →
       tol_line n p (text_of value from_tol)
-      ≡ Right
+      ≡ Ok
       (record {
         settings = filled p p.l p.c t.settings.tolerance;
         reference = t.reference;
@@ -92,7 +90,7 @@ module _ (t : Ticket) (value : Place → List ℕ) (said : (p : Place) → Says 
     from_first : {r : List ℕ} → s ≡ r → ticket_of s ≡ due 1 (ascii "formula=") formula_named (white_line 2) r
     from_first e = sym (ticket_of_short s at_most_lem) ∙ ap (due 1 (ascii "formula=") formula_named (white_line 2)) e
 
-    read_all : s ≡ text_of value all_places → ticket_of s ≡ Right t
+    read_all : s ≡ text_of value all_places → ticket_of s ≡ Ok t
     unfolding c_line starts_with line
     read_all e =
         let r = text_of value (Place.l ∷ Place.c ∷ from_tol) in
@@ -102,20 +100,20 @@ module _ (t : Ticket) (value : Place → List ℕ) (said : (p : Place) → Says 
         ∙ last_lines 5 _
 
     read_short :
-        s ≡ text_of value without_l_and_c → t.settings.l ≡ missing_l → t.settings.c ≡ missing_c → ticket_of s ≡ Right t
+        s ≡ text_of value without_l_and_c → t.settings.l ≡ missing_l → t.settings.c ≡ missing_c → ticket_of s ≡ Ok t
     unfolding starts_with line
     read_short e el ec =
         let p = t.settings in
         from_first e ∙ first_lines from_tol ∙ sym (factors_missing 3 first (text_of value from_tol) refl refl)
         ∙ last_lines 3 first
-        ∙ (λ i. Right
+        ∙ (λ i. Ok
         (record {
           settings = filled p (sym el i) (sym ec i) p.tolerance;
           reference = t.reference;
           test = t.test;
         }))
 
-pub consists-read : (s : List ℕ) (t : Ticket) → Consists t s → ticket_of s ≡ Right t
+pub consists-read : (s : List ℕ) (t : Ticket) → Consists t s → ticket_of s ≡ Ok t
 consists-read s t k =
     ⊎_elim (read_all t k.value k.said s k.at_most_lem)
     (λ e. read_short t k.value k.said s k.at_most_lem e.0 e.1 e.2)

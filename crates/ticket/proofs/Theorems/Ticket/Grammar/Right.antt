@@ -1,11 +1,10 @@
 -- THE TICKET: `ticket_of` finds a ticket exactly where the text consists of that ticket's lines. Assumes nothing.
-use Rattle.std.specs.Prelude.{ℕ, ◌≤◌, ◌≡◌, refl, Bool, cond, ◌↔◌, ltb, length}
+use Rattle.std.specs.Prelude.{ℕ, ◌≤◌, ◌≡◌, refl, Bool, cond, ◌↔◌, ltb, length, Some, Ok}
 use Rattle.std.proofs.Common.{sym, ◌∙◌, ltb-false}
 use Rattle.std.proofs.Math.Path.{ap}
 use Rattle.std.proofs.Math.Bool.{true, false}
 use mathlib.Core.List.{List, [], ◌∷◌, ◌++◌}
 use Rattle.std.proofs.Math.Logic.{inl, inr}
-use Rattle.std.proofs.Math.Option.{some}
 use Rattle.text.specs.Ascii.{ascii}
 use Rattle.text.specs.Bytes.{index_of, before, after, starts_with}
 use Rattle.text.specs.Number.{numeral, digits_of, fraction_of, decimal_of, thousandths_of}
@@ -18,15 +17,15 @@ use Rattle.ticket.specs.Ticket.Grammar.{Place, key, Says, text_of, Consists}
 use Rattle.ticket.proofs.Theorems.Ticket.Grammar.Read.{consists-read}
 use Rattle.ticket.proofs.Theorems.Ticket.Grammar.Spelt.{wrong-right, read, Spelt, from_tol, tol_spelt}
 use Rattle.ticket.specs.declared.lines.Ticket.{Ticket}
-use Rattle.ticket.specs.declared.lines.Parsed.TheVariants.{Right, Wrong}
+use Rattle.ticket.specs.Ticket.{wrong_line}
 
 -- ---- l and c where they are missing, as their lines would say them
 
-pub l_in_digits : thousandths_of (ascii "2.000") ≡ some missing_l
+pub l_in_digits : thousandths_of (ascii "2.000") ≡ Some missing_l
 unfolding decimal_of digits_of fraction_of numeral before after index_of
 l_in_digits = refl
 
-pub c_in_digits : thousandths_of (ascii "1.000") ≡ some missing_c
+pub c_in_digits : thousandths_of (ascii "1.000") ≡ Some missing_c
 unfolding decimal_of digits_of fraction_of numeral before after index_of
 c_in_digits = refl
 
@@ -77,18 +76,18 @@ module _ (t : Ticket) where
     first_two u = line (key Place.formula) f ++ (line (key Place.white) w ++ u)
 
     factors_spelt :
-        s ≡ first_two r → formula_named f ≡ some x → white_named w ≡ some y → (b : Bool)
+        s ≡ first_two r → formula_named f ≡ Some x → white_named w ≡ Some y → (b : Bool)
         → cond b (tol_line 3 (blank x y) r)
         (due 3 (key Place.l) thousandths_of (λ n. c_line 4 (filled (blank x y) n missing_c 0)) r)
-        ≡ Right t → Consists t s
+        ≡ Ok t → Consists t s
     unfolding c_line values
     factors_spelt e hf hw true g =
         let k = tol_spelt t 3 (blank x y) r g in
         let l = ascii "2.000" in
         let c = ascii "1.000" in
         let said =
-        all_said f w l c r k.1 (hf ∙ ap some (sym k.0.formula)) (hw ∙ ap some (sym k.0.white))
-        (l_in_digits ∙ ap some (sym k.0.l)) (c_in_digits ∙ ap some (sym k.0.c)) in
+        all_said f w l c r k.1 (hf ∙ ap Some (sym k.0.formula)) (hw ∙ ap Some (sym k.0.white))
+        (l_in_digits ∙ ap Some (sym k.0.l)) (c_in_digits ∙ ap Some (sym k.0.c)) in
         record {
           value = values f w l c r k.1;
           said = said;
@@ -100,8 +99,8 @@ module _ (t : Ticket) where
         let b = read 4 Place.c thousandths_of _ a.rest a.after-it in
         let k = tol_spelt t 5 (filled (blank x y) a.what b.what 0) b.rest b.after-it in
         let said =
-        all_said f w a.said b.said b.rest k.1 (hf ∙ ap some (sym k.0.formula))
-        (hw ∙ ap some (sym k.0.white)) (a.says ∙ ap some (sym k.0.l)) (b.says ∙ ap some (sym k.0.c)) in
+        all_said f w a.said b.said b.rest k.1 (hf ∙ ap Some (sym k.0.formula))
+        (hw ∙ ap Some (sym k.0.white)) (a.says ∙ ap Some (sym k.0.l)) (b.says ∙ ap Some (sym k.0.c)) in
         let from-tol = last_text f w a.said b.said b.rest k.1 in
         let from-c = b.text ∙ ap (λ (u : List ℕ). line (key Place.c) b.said ++ u) from-tol in
         let from-l = a.text ∙ ap (λ (u : List ℕ). line (key Place.l) a.said ++ u) from-c in
@@ -114,7 +113,7 @@ module _ (t : Ticket) where
 
   whole_by :
       (s : List ℕ) (b : Bool) → ltb 4096 (length s) ≡ b
-      → cond b (Wrong 0) (due 1 (key Place.formula) formula_named (white_line 2) s) ≡ Right t → Consists t s
+      → cond b (wrong_line 0) (due 1 (key Place.formula) formula_named (white_line 2) s) ≡ Ok t → Consists t s
   unfolding white_line factor_lines
   whole_by s true eb e = absurd (wrong-right e)
   whole_by s false eb e =
@@ -124,9 +123,9 @@ module _ (t : Ticket) where
       factors_spelt s a.said b.said b.rest a.what b.what (ltb-false 4096 (length s) eb)
       text a.says b.says (starts_with (ascii "tol=") b.rest) b.after-it
 
-read-consists : (s : List ℕ) (t : Ticket) → ticket_of s ≡ Right t → Consists t s
+read-consists : (s : List ℕ) (t : Ticket) → ticket_of s ≡ Ok t → Consists t s
 unfolding ticket_of
 read-consists s t e = whole_by t s (ltb 4096 (length s)) refl e
 
-pub right_exactly : (s : List ℕ) (t : Ticket) → (ticket_of s ≡ Right t) ↔ Consists t s
+pub right_exactly : (s : List ℕ) (t : Ticket) → (ticket_of s ≡ Ok t) ↔ Consists t s
 right_exactly s t = (read-consists s t, consists-read s t)

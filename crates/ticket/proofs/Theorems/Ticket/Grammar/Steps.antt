@@ -1,12 +1,12 @@
 -- One line of a text after the other: where `due` has it wrong the grammar has too; after a right one the next is due.
 -- Assumes nothing.
 use Prim.Native.Nat.{ℕ, suc, ◌+◌, ◌-◌, ◌≤◌, ◌<◌}
-use Rattle.std.specs.Prelude.{◌≡◌, Bool, true, false, cond, ◌&&◌, length, drop}
+use Rattle.std.specs.Prelude.{◌≡◌, Bool, true, false, cond, ◌&&◌, length, drop, Option, None, Some, Ok, Err}
 use Rattle.std.proofs.Math.Path.{refl, ap}
 use Rattle.std.proofs.Common.{sym, subst, ◌∙◌, add-zero}
 use Rattle.std.proofs.lemmas.Bool.{false≢true}
 use mathlib.Core.List.{List, [], ◌∷◌, ◌++◌}
-use Rattle.std.proofs.Math.Option.{Option, none, some, none-ne-some, some-injective}
+use Rattle.std.proofs.lemmas.Option.{none-some, same_Some}
 use Rattle.std.proofs.Math.Seq.{drop-append_seam}
 use native.Mathlib.Omega.{arith}
 use Rattle.std.proofs.Math.Decide.{dec_lt}
@@ -19,8 +19,7 @@ use Rattle.ticket.specs.Ticket.Grammar.{Place, key, form_of, RightFor, WrongAt, 
 use Rattle.ticket.specs.Ticket.Grammar.{RightAt, right-line, nothing_follows, RightBefore}
 use Rattle.ticket.proofs.Theorems.Ticket.Grammar.Tells.{Tells}
 use Rattle.ticket.specs.declared.lines.Ticket.{Ticket}
-use Rattle.ticket.specs.declared.lines.Parsed.{Parsed}
-use Rattle.ticket.specs.declared.lines.Parsed.TheVariants.{Right, Wrong}
+use Rattle.ticket.specs.Ticket.{Parsed, wrong_line}
 
 -- reading has come to line n: ps are its place and those after it, and r is the text from there on
 pub record Due (s : List ℕ) (n : ℕ) (ps : List Place) (r : List ℕ) : Type 0 where
@@ -31,12 +30,12 @@ pub record Due (s : List ℕ) (n : ℕ) (ps : List Place) (r : List ℕ) : Type 
 
 -- an answer that is the grammar's too
 abbrev pub Good : List ℕ → Parsed → Type 0
-Good s (Right t) = (m : ℕ) → 0 < m → RightAt m s
-Good s (Wrong n) = WrongAt n s
+Good s (Ok t) = (m : ℕ) → 0 < m → RightAt m s
+Good s (Err e) = WrongAt e.0 s
 
 abbrev inside : Option Line → List ℕ
-inside none = []
-inside (some x) = content x
+inside None = []
+inside (Some x) = content x
 
 pub nth_at : {A : Type 0} (xs : List A) {j k : ℕ} → j ≡ k → nth j xs ≡ nth k xs
 nth_at xs e = ap (λ (i : ℕ). nth i xs) e
@@ -48,17 +47,17 @@ module _ (s : List ℕ) (short : length s ≤ 4096) where
   -- ---- a place's line
 
   module _ (n : ℕ) (p : Place) (ps : List Place) (r : List ℕ) (d : Due s n (p ∷ ps) r) where
-    place_here : nth n (form_of s) ≡ some p
+    place_here : nth n (form_of s) ≡ Some p
     unfolding nth
     place_here = nth_at (form_of s) (sym (add-zero n)) ∙ d.places 0
 
-    not_right : ((x : Line) → nth 1 (lines_of r) ≡ some x → RightFor p x → ⊥) → RightAt n s → ⊥
+    not_right : ((x : Line) → nth 1 (lines_of r) ≡ Some x → RightFor p x → ⊥) → RightAt n s → ⊥
     not_right h (right-line {p = q} {x = x} e g k) =
-        let same = some-injective q p (sym e ∙ place_here) in
+        let same = same_Some q p (sym e ∙ place_here) in
         h x (sym (line-here n (p ∷ ps) r d) ∙ g) (subst (λ (u : Place). RightFor u x) same k)
-    not_right h (nothing_follows e g) = none-ne-some _ (sym e ∙ place_here)
+    not_right h (nothing_follows e g) = none-some _ (sym e ∙ place_here)
 
-    wrong-here : ((x : Line) → nth 1 (lines_of r) ≡ some x → RightFor p x → ⊥) → WrongAt n s
+    wrong-here : ((x : Line) → nth 1 (lines_of r) ≡ Some x → RightFor p x → ⊥) → WrongAt n s
     wrong-here h = first_wrong d.counted short d.right (not_right h)
 
     up_to : RightAt n s → RightBefore (n + 1) s
@@ -82,19 +81,19 @@ module _ (s : List ℕ) (short : length s ≤ 4096) where
         }
 
     line_is :
-        has 10 r ≡ true → {x : Line} → nth 1 (lines_of r) ≡ some x → (f : RightFor p x) → before 10 r ≡ key p ++ f.value
+        has 10 r ≡ true → {x : Line} → nth 1 (lines_of r) ≡ Some x → (f : RightFor p x) → before 10 r ≡ key p ++ f.value
     line_is h e f = ap inside (sym (first_ended r h) ∙ e) ∙ f.whole
 
     abbrev v : List ℕ
     v = drop (length (key p)) (before 10 r)
 
     value_is :
-        has 10 r ≡ true → {x : Line} → nth 1 (lines_of r) ≡ some x → (f : RightFor p x) → v ≡ f.value
+        has 10 r ≡ true → {x : Line} → nth 1 (lines_of r) ≡ Some x → (f : RightFor p x) → v ≡ f.value
     value_is h e f = ap (drop (length (key p))) (line_is h e f) ∙ drop-append_seam (key p) f.value
 
     module _ {A : Type 0} (value : List ℕ → Option A) (tells : Tells p value) (next : A → List ℕ → Parsed) where
       right-here :
-          has 10 r ≡ true → starts_with (key p) (before 10 r) ≡ true → {x : A} → value v ≡ some x → RightAt n s
+          has 10 r ≡ true → starts_with (key p) (before 10 r) ≡ true → {x : A} → value v ≡ Some x → RightAt n s
       right-here h ek {x} eo =
           let t = tells.some_ticket v x eo in
           let whole = starts_is (key p) (before 10 r) ek in
@@ -104,15 +103,15 @@ module _ (s : List ℕ) (short : length s ≤ 4096) where
       by_tests :
           ((x : A) → Due s (n + 1) ps (after 10 r) → Good s (next x (after 10 r)))
           → (h : Bool) → has 10 r ≡ h → (k : Bool) → starts_with (key p) (before 10 r) ≡ k → (o : Option A) → value v ≡ o
-          → Good s (cond (h && k) (or_wrong n o (λ x. next x (after 10 r))) (Wrong n))
+          → Good s (cond (h && k) (or_wrong n o (λ x. next x (after 10 r))) (wrong_line n))
       by_tests go false h k ek o eo = wrong-here (λ x e f. false≢true (sym (first_not_ended r h e) ∙ f.ends))
       by_tests go true h false ek o eo =
           wrong-here (λ x e f.
           false≢true (sym ek ∙ ap (starts_with (key p)) (line_is h e f) ∙ starts-append (key p) f.value))
-      by_tests go true h true ek none eo =
+      by_tests go true h true ek None eo =
           wrong-here (λ x e f.
           tells.no_ticket f.value (sym (ap value (value_is h e f)) ∙ eo) f.ticket f.said)
-      by_tests go true h true ek (some x) eo = go x (due-next h (right-here h ek eo))
+      by_tests go true h true ek (Some x) eo = go x (due-next h (right-here h ek eo))
 
       pub step :
           ((x : A) → Due s (n + 1) ps (after 10 r) → Good s (next x (after 10 r))) → Good s (due n (key p) value next r)
@@ -136,7 +135,7 @@ module _ (s : List ℕ) (short : length s ≤ 4096) where
     more_not_right : (x : ℕ) (r : List ℕ) → Due s n [] (x ∷ r) → RightAt n s → ⊥
     unfolding nth
     more_not_right x r d (right-line e g k) =
-        none-ne-some _ (sym (nth_at (form_of s) (sym (add-zero n)) ∙ d.places 0) ∙ e)
+        none-some _ (sym (nth_at (form_of s) (sym (add-zero n)) ∙ d.places 0) ∙ e)
     more_not_right x r d (nothing_follows e g) = some_line x r (sym (line-here n [] (x ∷ r) d) ∙ g)
 
     pub end_good : (r : List ℕ) → Due s n [] r → Good s (nothing_more n t r)

@@ -1,23 +1,24 @@
 -- A value says what some ticket has in its place exactly where the code finds that it says something. Assumes nothing.
-use Rattle.std.specs.Prelude.{ℕ, ◌≡◌, false, List}
+use Rattle.std.specs.Prelude.{ℕ, ◌≡◌, false, List, Option, None, Some}
 use Rattle.std.proofs.Common.{sym, ap, ◌∙◌}
-use Rattle.std.proofs.Math.Option.{Option, none, some, none-ne-some}
+use Rattle.std.proofs.lemmas.Option.{none-some}
 use Rattle.text.specs.Number.{decimal_below, thousandths_of}
-use Rattle.colour.specs.declared.placed.Written.{Written}
+use Rattle.colour.specs.Placed.{Written}
 use Rattle.colour.specs.declared.white.White.{White}
 use Rattle.colour.specs.declared.white.White.TheVariants.{D65Ten}
 use Rattle.sheet.specs.declared.formula.Formula.{Formula}
 use Rattle.sheet.specs.declared.formula.Formula.TheVariants.{CMC}
-use Rattle.ticket.specs.Ticket.{formula_named, white_named, space_named, in_space, reading_of}
+use Rattle.ticket.specs.Ticket.{formula_named, white_named, space_named, reading_of}
+use Rattle.colour.specs.Placed.{in_space}
 use Rattle.ticket.specs.Ticket.Grammar.{Place, Says}
 use Rattle.ticket.proofs.Theorems.Ticket.Grammar.Values.{reads_of, of_reads, space_in_lem, own_space}
-use Rattle.ticket.specs.declared.value.Space.{Space}
-use Rattle.ticket.specs.declared.value.Space.TheVariants.{Xyz}
+use Rattle.colour.specs.declared.placed.Space.{Space}
+use Rattle.colour.specs.declared.placed.Space.TheVariants.{Xyz}
 use Rattle.ticket.specs.declared.lines.Ticket.{Ticket}
 
 pub record Tells {A : Type 0} (p : Place) (value : List ℕ → Option A) : Type 0 where
-  pub some_ticket : (v : List ℕ) (x : A) → value v ≡ some x → (t : Ticket) × Says t p v
-  pub no_ticket : (v : List ℕ) → value v ≡ none → (t : Ticket) → Says t p v → ⊥
+  pub some_ticket : (v : List ℕ) (x : A) → value v ≡ Some x → (t : Ticket) × Says t p v
+  pub no_ticket : (v : List ℕ) → value v ≡ None → (t : Ticket) → Says t p v → ⊥
 
 -- a ticket with these, whatever else it has
 abbrev blank : Formula → White → ℕ → Written → Ticket
@@ -27,8 +28,8 @@ blank f w n r =
 abbrev zeros : Space → Written
 zeros p = in_space p (decimal_below false 0) (decimal_below false 0) (decimal_below false 0)
 
-silent : {A : Type 0} {o : Option A} {x : A} → o ≡ none → o ≡ some x → ⊥
-silent e h = none-ne-some _ (sym e ∙ h)
+silent : {A : Type 0} {o : Option A} {x : A} → o ≡ None → o ≡ Some x → ⊥
+silent e h = none-some _ (sym e ∙ h)
 
 pub tells_formula : Tells Place.formula formula_named
 tells_formula =
@@ -49,7 +50,7 @@ tells_tol = record { some_ticket = λ v n h. (blank CMC D65Ten n (zeros Xyz), h)
 pub tells_space : Tells Place.space space_named
 tells_space =
     record {
-      some_ticket = λ v p h. (blank CMC D65Ten 0 (zeros p), h ∙ ap some (sym (space_in_lem _ _ _ p)));
+      some_ticket = λ v p h. (blank CMC D65Ten 0 (zeros p), h ∙ ap Some (sym (space_in_lem _ _ _ p)));
       no_ticket = λ v e t h. silent e h;
     }
 

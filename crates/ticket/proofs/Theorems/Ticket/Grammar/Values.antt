@@ -1,9 +1,9 @@
 -- Three numbers are a reading as `reading_of` has it, of either space, and no value has an LF. Assumes nothing.
-use Rattle.std.specs.Prelude.{ℕ, ◌≡◌, Bool, true, false}
+use Rattle.std.specs.Prelude.{ℕ, ◌≡◌, Bool, true, false, None, Some}
 use Rattle.std.proofs.Math.Path.{refl, sym, ap}
 use Rattle.std.proofs.Common.{subst, ◌∙◌, lit<}
 use mathlib.Core.List.{List, [], ◌∷◌, ◌++◌, append-nil}
-use Rattle.std.proofs.Math.Option.{none, some, none-ne-some}
+use Rattle.std.proofs.lemmas.Option.{none-some}
 use Rattle.text.specs.Ascii.{ascii}
 use Rattle.text.specs.Bytes.{index_of, has, before, after, starts_with}
 use Rattle.text.proofs.Theorems.Bytes.Parts.{free, free-append, before_append, after-append, parted, after_none}
@@ -11,22 +11,23 @@ use Rattle.text.specs.Names.{formula_name, white_name}
 use Rattle.text.specs.Number.{digits_of, both, decimal_of, signed_of}
 use Rattle.text.specs.Put.{joined}
 use Rattle.reading.specs.declared.decimal.Decimal.{Decimal}
-use Rattle.colour.specs.declared.placed.Written.{Written}
+use Rattle.colour.specs.Placed.{Written}
 use Rattle.colour.specs.declared.white.White.{White}
 use Rattle.colour.specs.declared.white.White.TheVariants.{D65Ten, D65Two, CTen, CTwo}
 use Rattle.sheet.specs.declared.formula.Formula.{Formula}
 use Rattle.sheet.specs.declared.formula.Formula.TheVariants.{CIELAB, CIE94, CMC}
-use Rattle.ticket.specs.Ticket.{space_name, space_of, in_space, reading_of}
+use Rattle.ticket.specs.Ticket.{space_name, space_of, reading_of}
+use Rattle.colour.specs.Placed.{in_space}
 use Rattle.ticket.specs.Ticket.Grammar.{Place, Reads, Says}
 use Rattle.ticket.proofs.Theorems.Ticket.Grammar.Free.{decimal-free, signed-free, named_is}
 use Rattle.ticket.proofs.Theorems.Ticket.Grammar.Parted.{both_some}
-use Rattle.ticket.specs.declared.value.Space.{Space}
-use Rattle.ticket.specs.declared.value.Space.TheVariants.{Xyz, Lab}
+use Rattle.colour.specs.declared.placed.Space.{Space}
+use Rattle.colour.specs.declared.placed.Space.TheVariants.{Xyz, Lab}
 use Rattle.ticket.specs.declared.lines.Ticket.{Ticket}
 
 -- ---- three numbers
 
-nothing_said : signed_of [] ≡ none
+nothing_said : signed_of [] ≡ None
 unfolding signed_of starts_with before index_of decimal_of digits_of
 nothing_said = refl
 
@@ -35,19 +36,19 @@ unfolding before index_of
 before_nil = refl
 
 -- a number that stands after a space, so there is one
-after-has : (s : List ℕ) (e : Bool) {z : Decimal} → has 32 s ≡ e → signed_of (after 32 s) ≡ some z → e ≡ true
+after-has : (s : List ℕ) (e : Bool) {z : Decimal} → has 32 s ≡ e → signed_of (after 32 s) ≡ Some z → e ≡ true
 after-has s true e h = refl
-after-has s false e h = absurd (none-ne-some _ (sym nothing_said ∙ rw (after_none 32 s e) at h))
+after-has s false e h = absurd (none-some _ (sym nothing_said ∙ rw (after_none 32 s e) at h))
 
 between_has :
-    (s : List ℕ) (e : Bool) {y : Decimal} → has 32 s ≡ e → signed_of (before 32 (after 32 s)) ≡ some y → e ≡ true
+    (s : List ℕ) (e : Bool) {y : Decimal} → has 32 s ≡ e → signed_of (before 32 (after 32 s)) ≡ Some y → e ≡ true
 between_has s true e h = refl
 between_has s false e h =
     let nothing = ap signed_of (ap (before 32) (after_none 32 s e) ∙ before_nil) ∙ nothing_said in
-    absurd (none-ne-some _ (sym nothing ∙ h))
+    absurd (none-some _ (sym nothing ∙ h))
 
 module _ (p : Space) where
-  pub reads_of : (v : List ℕ) {r : Written} → reading_of p v ≡ some r → Reads p v r
+  pub reads_of : (v : List ℕ) {r : Written} → reading_of p v ≡ Some r → Reads p v r
   unfolding reading_of
   reads_of v h =
       let t = after 32 v in
@@ -76,8 +77,8 @@ module _ (p : Space) where
 
   of_parts :
       (first second third : List ℕ) {x y z : Decimal}
-      → signed_of first ≡ some x → signed_of second ≡ some y → signed_of third ≡ some z
-      → reading_of p (joined (first ∷ ascii " " ∷ second ∷ ascii " " ∷ third ∷ [])) ≡ some (in_space p x y z)
+      → signed_of first ≡ Some x → signed_of second ≡ Some y → signed_of third ≡ Some z
+      → reading_of p (joined (first ∷ ascii " " ∷ second ∷ ascii " " ∷ third ∷ [])) ≡ Some (in_space p x y z)
   unfolding reading_of
   of_parts first second third hx hy hz =
       let fx = signed-free 32 (lit< tt) first hx in
@@ -96,15 +97,14 @@ module _ (p : Space) where
 
   -- of either space
   pub of_reads :
-      {q : Space} {v : List ℕ} {r : Written} (k : Reads q v r) → reading_of p v ≡ some (in_space p k.x k.y k.z)
+      {q : Space} {v : List ℕ} {r : Written} (k : Reads q v r) → reading_of p v ≡ Some (in_space p k.x k.y k.z)
   of_reads k =
       ap (reading_of p) k.parted ∙ of_parts k.first k.second k.third k.x_said k.y_said k.z_said
 
-pub of_said : {p : Space} {v : List ℕ} {r : Written} → Reads p v r → reading_of p v ≡ some r
-of_said k = of_reads _ k ∙ ap some (sym k.reading)
+pub of_said : {p : Space} {v : List ℕ} {r : Written} → Reads p v r → reading_of p v ≡ Some r
+of_said k = of_reads _ k ∙ ap Some (sym k.reading)
 
 pub space_in_lem : (x y z : Decimal) (p : Space) → space_of (in_space p x y z) ≡ p
-unfolding in_space
 space_in_lem x y z Xyz = refl
 space_in_lem x y z Lab = refl
 

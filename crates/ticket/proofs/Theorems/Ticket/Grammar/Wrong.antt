@@ -1,7 +1,7 @@
 -- THE FIRST WRONG LINE: `ticket_of` is wrong at line n exactly where the grammar has the text wrong at line n.
 -- Assumes nothing.
 use Prim.Native.Nat.{ℕ, suc, ◌+◌, ◌≤◌, ◌<◌}
-use Rattle.std.specs.Prelude.{◌≡◌, Bool, cond, ◌↔◌, ltb, length}
+use Rattle.std.specs.Prelude.{◌≡◌, Bool, cond, ◌↔◌, ltb, length, Ok, Err}
 use Rattle.std.proofs.Math.Path.{refl, ap}
 use Rattle.std.proofs.Common.{sym, subst, ◌∙◌, ltb-true, ltb-false}
 use Rattle.std.proofs.Math.Bool.{true, false}
@@ -23,8 +23,7 @@ use Rattle.ticket.proofs.Theorems.Ticket.Grammar.Tells.{tells_formula, tells_whi
 use Rattle.ticket.proofs.Theorems.Ticket.Grammar.Tells.{tells_space, tells_ref, tells_test}
 use Rattle.ticket.specs.Ticket.Laws.{ticket_of_long}
 use Rattle.ticket.specs.declared.lines.Ticket.{Ticket}
-use Rattle.ticket.specs.declared.lines.Parsed.{Parsed}
-use Rattle.ticket.specs.declared.lines.Parsed.TheVariants.{Right, Wrong}
+use Rattle.ticket.specs.Ticket.{Parsed, wrong_line}
 
 -- ---- the lines in their order
 
@@ -93,7 +92,7 @@ module _ (s : List ℕ) (short : length s ≤ 4096) where
 module _ (s : List ℕ) where
   good_by :
       (b : Bool) → ltb 4096 (length s) ≡ b
-      → Good s (cond b (Wrong 0) (due 1 (ascii "formula=") formula_named (white_line 2) s))
+      → Good s (cond b (wrong_line 0) (due 1 (ascii "formula=") formula_named (white_line 2) s))
   good_by true e = too_long refl (ltb-true 4096 (length s) e)
   good_by false e = lines-good s (ltb-false 4096 (length s) e)
 
@@ -102,7 +101,7 @@ module _ (s : List ℕ) where
   good = good_by (ltb 4096 (length s)) refl
 
   -- where a ticket is found every line is right, and nothing follows the last
-  pub right-lines : {t : Ticket} → ticket_of s ≡ Right t → (n : ℕ) → 0 < n → RightAt n s
+  pub right-lines : {t : Ticket} → ticket_of s ≡ Ok t → (n : ℕ) → 0 < n → RightAt n s
   right-lines e = subst (Good s) e good
 
   only-wrong : {m n : ℕ} → WrongAt m s → WrongAt n s → m ≡ n
@@ -116,10 +115,10 @@ module _ (s : List ℕ) where
       go (no ge) (yes lt) = absurd (wrong' (right n pos' lt))
       go (no ge) (no le) = omega arith
 
-  wrong_by : {n : ℕ} (p : Parsed) → ticket_of s ≡ p → WrongAt n s → p ≡ Wrong n
-  wrong_by (Right t) e (too_long f k) = absurd (let z : ◌≡◌ {A = ℕ} 0 1 = cc (ticket_of_long s k) in omega arith)
-  wrong_by (Right t) e (first_wrong pos k right wrong) = absurd (wrong (right-lines e _ pos))
-  wrong_by (Wrong m) e w = ap Wrong (only-wrong (subst (Good s) e good) w)
+  wrong_by : {n : ℕ} (p : Parsed) → ticket_of s ≡ p → WrongAt n s → p ≡ wrong_line n
+  wrong_by (Ok t) e (too_long f k) = absurd (let z : ◌≡◌ {A = ℕ} 0 1 = cc (ticket_of_long s k) in omega arith)
+  wrong_by (Ok t) e (first_wrong pos k right wrong) = absurd (wrong (right-lines e _ pos))
+  wrong_by (Err m) e w = ap wrong_line (only-wrong (subst (Good s) e good) w)
 
-  pub wrong_exactly : (n : ℕ) → (ticket_of s ≡ Wrong n) ↔ WrongAt n s
+  pub wrong_exactly : (n : ℕ) → (ticket_of s ≡ wrong_line n) ↔ WrongAt n s
   wrong_exactly n = (λ e. subst (Good s) e good, λ w. wrong_by (ticket_of s) refl w)

@@ -1,40 +1,40 @@
 -- What is printed in a place says what the ticket has there. Assumes nothing.
-use Rattle.std.specs.Prelude.{◌^◌, ◌<◌, ◌≡◌, refl}
+use Rattle.std.specs.Prelude.{◌^◌, ◌<◌, ◌≡◌, refl, Some}
 use Rattle.std.proofs.Common.{subst}
-use Rattle.std.proofs.Math.Option.{some}
 use Rattle.text.specs.Bytes.{starts_with, same_bytes}
 use Rattle.text.specs.Names.{formula_name, white_name}
 use Rattle.text.proofs.Theorems.Number.Written.{thousandths-written, signed-written}
 use Rattle.reading.specs.declared.decimal.Decimal.{Decimal}
-use Rattle.colour.specs.declared.placed.Written.{Written}
-use Rattle.colour.specs.declared.placed.Written.TheVariants as W
+use Rattle.colour.specs.Placed.{Written}
+use Rattle.colour.specs.declared.placed.Values.TheVariants as W
 use Rattle.colour.specs.declared.white.White.{White}
 use Rattle.colour.specs.declared.white.White.TheVariants.{D65Ten, D65Two, CTen, CTwo}
 use Rattle.sheet.specs.declared.formula.Formula.{Formula}
 use Rattle.sheet.specs.declared.formula.Formula.TheVariants.{CIELAB, CIE94, CMC}
-use Rattle.ticket.specs.Ticket.{named, formula_named, white_named, space_name, space_named, space_of, in_space}
+use Rattle.ticket.specs.Ticket.{named, formula_named, white_named, space_name, space_named, space_of}
+use Rattle.colour.specs.Placed.{in_space}
 use Rattle.ticket.specs.Ticket.Grammar.{Place, Reads, Says}
 use Rattle.ticket.specs.Ticket.Print.{number, triple, reading_text, printed, Fits, Writable}
-use Rattle.ticket.specs.declared.value.Space.{Space}
-use Rattle.ticket.specs.declared.value.Space.TheVariants.{Xyz, Lab}
+use Rattle.colour.specs.declared.placed.Space.{Space}
+use Rattle.colour.specs.declared.placed.Space.TheVariants.{Xyz, Lab}
 use Rattle.ticket.specs.declared.lines.Ticket.{Ticket}
 
 -- ---- names
 
-pub formula-read : (f : Formula) → formula_named (formula_name f) ≡ some f
+pub formula-read : (f : Formula) → formula_named (formula_name f) ≡ Some f
 unfolding named same_bytes starts_with
 formula-read CIELAB = refl
 formula-read CIE94 = refl
 formula-read CMC = refl
 
-pub white-read : (w : White) → white_named (white_name w) ≡ some w
+pub white-read : (w : White) → white_named (white_name w) ≡ Some w
 unfolding named same_bytes starts_with
 white-read D65Ten = refl
 white-read D65Two = refl
 white-read CTen = refl
 white-read CTwo = refl
 
-space-read : (p : Space) → space_named (space_name p) ≡ some p
+space-read : (p : Space) → space_named (space_name p) ≡ Some p
 unfolding named same_bytes starts_with
 space-read Xyz = refl
 space-read Lab = refl
@@ -60,7 +60,7 @@ triple-read p x y z hx hy hz =
     }
 
 reading-read : (r : Written) → Fits r → Reads (space_of r) (reading_text r) r
-unfolding reading_text in_space
+unfolding reading_text
 reading-read (W.Xyz x y z) h = triple-read Xyz x y z h.0 h.1 h.2
 reading-read (W.Lab x y z) h = triple-read Lab x y z h.0 h.1 h.2
 

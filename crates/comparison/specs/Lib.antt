@@ -1,2 +1,0 @@
--- What the contracts of `comparison` ask.
-pub mod Ranges
