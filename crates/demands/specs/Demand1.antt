@@ -16,7 +16,6 @@ use Rattle.colour.specs.declared.placed.Values.TheVariants.{Xyz, Lab}
 use Rattle.cones.specs.InTurn.{number_of, index_of}
 use Rattle.cones.specs.Cones.{readings_of}
 use Rattle.colour.specs.declared.placed.Space.{Space}
-use Rattle.colour.specs.declared.placed.Space.TheVariants as Space
 use Rattle.delivery.specs.Sorted.{is_shaped, refused_with, sort_call, Sorts}
 use Rattle.delivery.proofs.Theorems.Sorted.Laws.{answer-number, answer-cone, refusal-kept}
 use Rattle.delivery.specs.declared.sorted.Sorted.{Sorted}

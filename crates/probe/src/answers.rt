@@ -1,4 +1,5 @@
-// What load, judge and ticket hand back, as C takes it: figures as doubles, names and the verdict as numbers.
+// What load, judge and ticket hand back, as C takes it: figures as doubles, names and the verdict as numbers. A load
+// and a judgement stand twice, as in libshade.a.
 ghost use Rattle.std.specs.Prelude.{◌≡◌};
 ghost use Rattle.colour.specs.declared.placed.Values.TheVariants.{Xyz, Lab};
 ghost use Rattle.standard.specs.Acceptance.{settings_by, settings_of};

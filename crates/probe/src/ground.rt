@@ -1,4 +1,4 @@
-// The lowest crates: roots, one number read or handed back, one colour placed.
+// The lowest crates: roots, one number read or handed back, one colour placed, for C by two entries.
 ghost use Rattle.std.specs.Prelude.{◌≡◌};
 ghost use Rattle.rounding.specs.Root.{root_of};
 ghost use Rattle.reading.specs.Reading.{float_units, decimal_units};
@@ -30,6 +30,7 @@ pub extern "C" fn probe_cube_root(x: u64) -> u64
     rounding::roots::cube_root(x)
 }
 
+// By the number that C gives, of which none is refused.
 fn quantity_of(n: u32) -> Quantity
     ensures { result ≡ quantity_of n }
 {

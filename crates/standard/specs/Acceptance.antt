@@ -1,6 +1,6 @@
 -- docs/SCOPE.md 1.2, 8.2: what a load takes, and what it is refused for. What it accepts is a standard.
 -- Assumes nothing.
-use Rattle.std.specs.Prelude.{◌≡◌, Bool, true, false, not, cond, List, [], ◌∷◌, ℕ, Result, Ok, Err, Option, Some, None}
+use Rattle.std.specs.Prelude.{◌≡◌, Bool, true, false, not, List, [], ◌∷◌, ℕ, Result, Ok, Err, Option, Some, None}
 use Rattle.colour.specs.Refusal.{refusal_of, refusal_numbered, refused_by}
 use Rattle.colour.specs.Conversion.Ranges.{OnGrid}
 use Rattle.colour.specs.White.{white_numbered}

@@ -12,7 +12,7 @@ use sheet::formula::Formula;
 use sheet::settings::{Settings, is_factor, is_tolerance};
 
 // What judgements go by, the reference on the grid. Nothing that is worked out from these is kept, so that nothing kept
-// can be stale.
+// can be stale. No invariant says what `accept` tested: a station's slice is filled with any.
 #[derive(Clone, Copy)]
 pub struct Standard {
     pub settings: Settings,

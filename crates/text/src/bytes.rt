@@ -1,4 +1,5 @@
-// Bytes that are looked for in a text, and the text's parts.
+// Bytes that are looked for in a text, and the text's parts: each in the words of the ticket's grammar, over the
+// library's call.
 ghost use Rattle.std.specs.Prelude.{◌≡◌};
 ghost use Rattle.text.specs.Bytes.{starts_with, same_bytes, before, after};
 ghost use Rattle.text.specs.Bytes.Laws.{Found};

@@ -1,4 +1,4 @@
-// A text put into a lent slice. Whoever calls has tested the room.
+// A text put into a lent slice. Whoever calls has tested the room, and goes on at the index that comes back.
 ghost use Rattle.text.specs.Put.{Room, Puts};
 
 // Puts src into dst from index at, and answers the index after it.

@@ -1,5 +1,5 @@
 -- docs/SCOPE.md 2.3: no finer sheet changes a verdict, in the words of `specs/Finer.antt`. Assumes nothing.
-use Rattle.std.specs.Prelude.{◌≡◌, ℕ, ◌+◌, ◌-◌, ◌*◌, ◌^◌, ◌≤◌}
+use Rattle.std.specs.Prelude.{ℕ, ◌+◌, ◌-◌, ◌*◌, ◌^◌, ◌≤◌}
 use Rattle.std.proofs.Common.{arith, pow_pos}
 use Rattle.rounding.specs.Nearest.{apart}
 use Rattle.colour.specs.declared.conversion.GridColour.{GridColour}

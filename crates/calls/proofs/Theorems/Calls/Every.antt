@@ -9,7 +9,7 @@ use Rattle.colour.specs.Placed.{take, place_by, place}
 use Rattle.colour.specs.White.{number_of_white}
 use Rattle.colour.specs.declared.conversion.GridColour.{GridColour}
 use Rattle.colour.specs.Placed.{Reading}
-use Rattle.colour.specs.declared.placed.Values.TheVariants.{Xyz, Lab}
+use Rattle.colour.specs.declared.placed.Values.TheVariants.{Lab}
 use Rattle.colour.specs.declared.white.White.{White}
 use Rattle.sheet.specs.Settings.{number_of_formula}
 use Rattle.sheet.specs.declared.settings.Settings.{Settings}

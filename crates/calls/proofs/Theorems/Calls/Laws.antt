@@ -16,7 +16,6 @@ use Rattle.report.specs.Report.{report_text}
 use Rattle.report.specs.Write.{has_room}
 use Rattle.standard.specs.Refusals.{Fault, at_room, number_at, first, refusal}
 use Rattle.standard.proofs.Theorems.Refusals.Laws.{first_zero, first_some, refusal-room}
-use Rattle.standard.specs.Acceptance as Acceptance
 use Rattle.standard.specs.Acceptance.{settings_of}
 use Rattle.standard.specs.declared.accept.Standard.{Standard}
 use Rattle.standard.specs.Acceptance.{Acceptance}
@@ -26,7 +25,7 @@ use Rattle.station.specs.Record.{store_in, decode}
 use Rattle.station.specs.Record.Laws.{stays}
 use Rattle.station.specs.Runs.{left}
 use Rattle.calls.specs.Outcome.{loaded, load_faults, judged_by, judge_faults, ticket_outcome, ticket_faults}
-use Rattle.calls.proofs.Theorems.Outcome.Load.{load-number, load-room, load_some}
+use Rattle.calls.proofs.Theorems.Outcome.Load.{load-number, load-room}
 use Rattle.calls.proofs.Theorems.Outcome.Judge.{judge-number, judge-room}
 use Rattle.calls.proofs.Theorems.Outcome.Ticket.{ticket-number, ticket-room}
 use Rattle.calls.specs.Calls.{Answer, Gives, writing, length_fault, load_call, room_fault, with_report, judge_call}

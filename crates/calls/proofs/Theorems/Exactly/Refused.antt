@@ -4,7 +4,6 @@ use Rattle.std.specs.Prelude.{◌≡◌, refl, cond, List, [], ◌∷◌, ℕ, O
 use Rattle.std.proofs.Common.{ap, ◌∙◌, ne_eqb}
 use Rattle.colour.specs.Refusal.{refusal_of}
 use Rattle.colour.specs.Placed.{Reading}
-use Rattle.standard.specs.Acceptance as Acceptance
 use Rattle.standard.specs.Figures.{no_reference, reference_answer, no_specimen, specimen_answer}
 use Rattle.standard.specs.Acceptance.{Acceptance}
 use Rattle.standard.specs.Judgement.{Outcome}

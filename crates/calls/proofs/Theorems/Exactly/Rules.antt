@@ -8,7 +8,6 @@ use Rattle.colour.specs.Placed.{Placed}
 use Rattle.sheet.specs.declared.settings.Settings.{Settings}
 use Rattle.report.specs.Report.{report_text}
 use Rattle.report.specs.Write.{has_room}
-use Rattle.standard.specs.Acceptance as Acceptance
 use Rattle.standard.specs.Acceptance.{Acceptance}
 use Rattle.standard.specs.declared.judge.Judgement.{Judgement}
 use Rattle.standard.specs.Judgement.{Outcome}

@@ -18,7 +18,6 @@ use Rattle.standard.specs.declared.judge.Judgement.{Judgement}
 use Rattle.standard.specs.Judgement.{Outcome}
 use Rattle.station.specs.Record.{decode}
 use Rattle.station.specs.Record.Back.{decode-stands}
-use Rattle.calls.proofs.Theorems.Outcome.Load.{placed_some}
 use Rattle.calls.specs.Outcome.{judged_by, judge_faults}
 use Rattle.colour.specs.declared.refusal.Refusal.TheVariants as Why
 

@@ -1,12 +1,12 @@
 -- What callers use of what a load comes to: each way out; its number is that of its first fault; what it accepts is
 -- valid, and is of its settings and its reference. Assumes nothing.
-use Rattle.std.specs.Prelude.{◌≡◌, List, ◌∷◌, ◌++◌, ◌⊎◌, ℕ, Result, Ok, Err, Option, Some, None}
+use Rattle.std.specs.Prelude.{◌≡◌, List, ◌∷◌, ◌++◌, ℕ, Result, Ok, Err, Option, Some, None}
 use Rattle.std.proofs.Math.Path.{refl}
-use Rattle.std.proofs.Common.{sym, ap, ◌∙◌, inl, inr, arith}
+use Rattle.std.proofs.Common.{sym, ap, ◌∙◌, arith}
 use Rattle.colour.specs.Refusal.{number_of_refusal, refusal_of}
 use Rattle.colour.proofs.Theorems.Refusal.{number-some}
 use Rattle.colour.specs.Placed.{place}
-use Rattle.colour.proofs.Theorems.Placed.Laws.{place_on_grid, place-refused}
+use Rattle.colour.proofs.Theorems.Placed.Laws.{place_on_grid}
 use Rattle.colour.specs.White.{white_numbered}
 use Rattle.colour.specs.Placed.{Placed}
 use Rattle.colour.specs.Placed.{Reading}

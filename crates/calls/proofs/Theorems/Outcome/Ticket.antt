@@ -1,7 +1,7 @@
 -- What callers use of what a ticket comes to: each way out; its number is that of its first fault; and whatever is
 -- judged was judged by its own valid standard, of a test specimen on the grid. Assumes nothing.
-use Rattle.std.specs.Prelude.{◌≡◌, refl, ◌⊎◌, Ok, Err}
-use Rattle.std.proofs.Common.{sym, ◌∙◌, inl, inr, arith}
+use Rattle.std.specs.Prelude.{◌≡◌, refl, Ok, Err}
+use Rattle.std.proofs.Common.{sym, ◌∙◌, arith}
 use Rattle.std.proofs.Math.Path.{ap}
 use mathlib.Core.List.{List, [], ◌∷◌, map}
 use Prim.Native.Nat.{ℕ}
@@ -9,7 +9,7 @@ use Rattle.colour.specs.Refusal.{number_of_refusal, refusal_of}
 use Rattle.colour.proofs.Theorems.Refusal.{number-some}
 use Rattle.colour.specs.declared.refusal.Refusal.{Refusal}
 use Rattle.colour.specs.Placed.{place_written}
-use Rattle.colour.proofs.Theorems.Placed.Laws.{written_on_grid, written-refused}
+use Rattle.colour.proofs.Theorems.Placed.Laws.{written_on_grid}
 use Rattle.colour.specs.Placed.{Placed}
 use Rattle.colour.specs.Placed.{Written}
 use Rattle.colour.specs.declared.white.White.{White}
@@ -18,7 +18,6 @@ use Rattle.ticket.specs.Ticket.{Parsed}
 use Rattle.standard.specs.Refusals.{at_l, at_c, at_tolerance, at_reference, at_room, number_at, first, first_of, refusal}
 use Rattle.standard.proofs.Theorems.Refusals.Laws.{first_zero, first_some, first_of-append}
 use Rattle.standard.specs.Acceptance.{range_faults, accept_faults, acceptance}
-use Rattle.standard.specs.Acceptance as Acceptance
 use Rattle.standard.proofs.Theorems.Acceptance.Laws.{accepted-valid, accept-number}
 use Rattle.standard.specs.Judgement.{judgement_of, outcome, Specimen, Judgeable}
 use Rattle.standard.proofs.Theorems.Judgement.Laws.{Says, judged-says, outcome-number}

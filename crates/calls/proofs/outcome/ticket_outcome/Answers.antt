@@ -1,7 +1,6 @@
 -- `outcome::ticket_outcome` meets its contract: what is accepted is a valid standard, and what is placed lies on the
 -- grid. Assumes nothing.
-use Rattle.std.proofs.Common.{sym, ap, ◌∙◌}
-use Rattle.standard.specs.Acceptance.{acceptance}
+use Rattle.std.proofs.Common.{sym, ◌∙◌}
 use Rattle.standard.proofs.Theorems.Acceptance.Laws.{accepted-valid}
 use Rattle.colour.proofs.Theorems.Placed.Laws.{written_on_grid}
 use Rattle.calls.proofs.outcome.ticket_outcome.Goals as goal
