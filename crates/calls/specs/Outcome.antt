@@ -2,20 +2,16 @@
 -- Assumes nothing.
 use Rattle.std.specs.Prelude.{true, List, [], ◌∷◌, ◌++◌, ℕ, Result, Ok, Err, Option, Some, None}
 use Rattle.colour.specs.Refusal.{refusal_of}
-use Rattle.colour.specs.Placed.{place, place_written}
+use Rattle.colour.specs.Placed.{place, place_written, Placed, Reading}
 use Rattle.colour.specs.White.{white_numbered}
-use Rattle.colour.specs.Placed.{Placed}
-use Rattle.colour.specs.Placed.{Reading}
 use Rattle.colour.specs.declared.white.White.{White}
 use Rattle.sheet.specs.Settings.{formula_numbered}
 use Rattle.ticket.specs.Ticket.{Parsed}
 use Rattle.standard.specs.Refusals.{Fault, fault, at_text, at_station, at_reference, at_test}
-use Rattle.standard.specs.Acceptance.{number_faults, range_faults, reading_fault, accept_faults, acceptance}
-use Rattle.standard.specs.Judgement.{outcome}
+use Rattle.standard.specs.Acceptance.{number_faults, range_faults, reading_fault, accept_faults, acceptance, Acceptance}
+use Rattle.standard.specs.Judgement.{outcome, Outcome}
 use Rattle.sheet.specs.declared.settings.Settings.{Settings}
 use Rattle.colour.specs.declared.refusal.Refusal.{Refusal}
-use Rattle.standard.specs.Acceptance.{Acceptance}
-use Rattle.standard.specs.Judgement.{Outcome}
 use Rattle.standard.specs.declared.accept.Standard.{Standard}
 use Rattle.colour.specs.declared.refusal.Refusal.TheVariants as Why
 pub mod Each

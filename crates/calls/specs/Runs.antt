@@ -2,8 +2,7 @@
 -- left it. Assumes nothing.
 use Rattle.std.specs.Prelude.{◌≡◌, List, [], ◌∷◌, ℕ}
 use Rattle.colour.specs.Placed.{Reading}
-use Rattle.standard.specs.Acceptance.{settings_of}
-use Rattle.standard.specs.Acceptance.{Acceptance}
+use Rattle.standard.specs.Acceptance.{settings_of, Acceptance}
 use Rattle.station.specs.Record.{zeros}
 use Rattle.station.specs.Runs.{last_accepted, fresh}
 use Rattle.calls.specs.Outcome.{loaded}

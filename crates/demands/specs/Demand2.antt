@@ -13,9 +13,8 @@ use Rattle.std.specs.Prelude.{◌≡◌, true, ◌↔◌, ◌⊎◌, List, ℕ, 
 use Rattle.std.proofs.Math.Path.{refl, ap}
 use Rattle.std.proofs.Common.{sym, ◌∙◌, subst}
 use Rattle.colour.specs.Conversion.{at_places}
-use Rattle.colour.specs.Placed.{place, place_written}
+use Rattle.colour.specs.Placed.{place, place_written, Reading}
 use Rattle.colour.specs.declared.conversion.GridColour.{GridColour}
-use Rattle.colour.specs.Placed.{Reading}
 use Rattle.colour.specs.declared.placed.Values.TheVariants.{Xyz, Lab}
 use Rattle.colour.specs.declared.white.White.{White}
 use Rattle.sheet.specs.Settings.{formula_numbered, Tolerance}
@@ -34,22 +33,20 @@ use Rattle.delivery.specs.Delivery.{difference_from}
 use Rattle.delivery.specs.declared.sorted.Sorted.{Sorted}
 use Rattle.text.specs.Ascii.{ascii}
 use Rattle.text.specs.Bytes.{starts_with}
-use Rattle.ticket.specs.Ticket.{ticket_of}
+use Rattle.ticket.specs.Ticket.{ticket_of, Parsed}
 use Rattle.ticket.proofs.Theorems.Ticket.AsWritten.{without, written, right_as_written}
 use Rattle.ticket.specs.Ticket.Grammar.{Consists}
 use Rattle.ticket.proofs.Theorems.Ticket.Grammar.Right.{right_exactly}
 use Rattle.ticket.specs.declared.lines.Ticket.{Ticket}
-use Rattle.ticket.specs.Ticket.{Parsed}
 use Rattle.standard.specs.Acceptance.{settings_of}
 use Rattle.standard.proofs.Theorems.Acceptance.Laws.{accepted_made, valid-accepted}
-use Rattle.standard.specs.Judgement.{judgement_of, outcome}
+use Rattle.standard.specs.Judgement.{judgement_of, outcome, Outcome}
 use Rattle.standard.proofs.Theorems.Judgement.Laws.{verdict_is}
 use Rattle.standard.proofs.Theorems.Judgement.Withheld.{judgement-withheld}
 use Rattle.standard.specs.Figures.{reference_answer, specimen_answer}
 use Rattle.standard.proofs.Theorems.Figures.Exact.{ReferenceExact, SpecimenExact}
 use Rattle.standard.specs.declared.accept.Standard.{Standard}
 use Rattle.standard.specs.declared.judge.Judgement.{Judgement}
-use Rattle.standard.specs.Judgement.{Outcome}
 use Rattle.station.specs.Record.{decode, zeros}
 use Rattle.station.specs.Runs.{fresh, last_accepted}
 use Rattle.calls.specs.Outcome.{loaded, judged_by, judge_faults, ticket_outcome, ticket_faults}

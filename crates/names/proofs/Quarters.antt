@@ -1,8 +1,7 @@
 -- The first axis that a turn meets, by the quarter that it begins in. Assumes nothing.
 use Rattle.names.proofs.Theorems.Names.Laws.{ahead_first_quarter, ahead-second-quarter, ahead-third-quarter}
-use Rattle.names.proofs.Theorems.Names.Laws.{ahead-fourth-quarter, ahead-right}
+use Rattle.names.proofs.Theorems.Names.Laws.{ahead-fourth-quarter, ahead-right, behind-fourth-quarter, behind-left}
 use Rattle.names.proofs.Theorems.Names.Laws.{behind_first_quarter, behind-second-quarter, behind-third-quarter}
-use Rattle.names.proofs.Theorems.Names.Laws.{behind-fourth-quarter, behind-left}
 
 pub ruleset quarters = (
   ahead_first_quarter,

@@ -6,10 +6,8 @@ use Rattle.reading.specs.declared.quantity.Quantity.TheVariants.{Tristimulus, Li
 use Rattle.reading.specs.Reading.{Units}
 use Rattle.reading.specs.declared.quantity.ReadError.TheVariants.{NotFinite, OutOfRange}
 use Rattle.colour.specs.Refusal.{number_of_refusal}
-use Rattle.colour.specs.Placed.{place}
+use Rattle.colour.specs.Placed.{place, Reading, Placed}
 use Rattle.colour.specs.declared.conversion.GridColour.{GridColour}
-use Rattle.colour.specs.Placed.{Reading}
-use Rattle.colour.specs.Placed.{Placed}
 use Rattle.colour.specs.declared.white.White.{White}
 
 -- ---- what a call is given

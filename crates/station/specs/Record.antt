@@ -11,8 +11,7 @@ use Rattle.sheet.specs.Settings.{number_of_formula}
 use Rattle.sheet.specs.declared.settings.Settings.{Settings}
 use Rattle.standard.specs.declared.accept.Standard.{Standard}
 use Rattle.colour.specs.declared.refusal.Refusal.{Refusal}
-use Rattle.standard.specs.Acceptance.{Acceptance}
-use Rattle.standard.specs.Acceptance.{settings_of, acceptance}
+use Rattle.standard.specs.Acceptance.{Acceptance, settings_of, acceptance}
 use Rattle.colour.specs.declared.refusal.Refusal.TheVariants as Why
 pub mod Laws
 pub mod Numbers

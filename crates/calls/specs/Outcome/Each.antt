@@ -4,12 +4,9 @@ use Rattle.std.proofs.Common.{inl, inr}
 use Rattle.colour.specs.Refusal.{number_of_refusal, refusal_of}
 use Rattle.colour.specs.declared.refusal.Refusal.{Refusal}
 use Rattle.colour.specs.declared.refusal.Refusal.TheVariants as Why
-use Rattle.colour.specs.Placed.{place, place_written}
+use Rattle.colour.specs.Placed.{place, place_written, Placed, Reading, Written}
 use Rattle.colour.proofs.Theorems.Placed.Laws.{place-refused, written-refused}
 use Rattle.colour.specs.White.{white_numbered}
-use Rattle.colour.specs.Placed.{Placed}
-use Rattle.colour.specs.Placed.{Reading}
-use Rattle.colour.specs.Placed.{Written}
 use Rattle.colour.specs.declared.white.White.{White}
 use Rattle.sheet.specs.Settings.{formula_numbered, is_factor, is_tolerance}
 use Rattle.ticket.specs.declared.lines.Ticket.{Ticket}

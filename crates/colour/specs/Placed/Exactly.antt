@@ -5,18 +5,14 @@ use Rattle.std.specs.Prelude.{◌≡◌, ◌↔◌, ◌⊎◌, ◌*◌, ◌^◌,
 use Rattle.std.specs.Float.{nan, inf, fin}
 use Rattle.std.specs.Float.Ieee.{up, down}
 use Rattle.rounding.specs.Signed.{∣◌∣}
-use Rattle.reading.specs.Reading.{range_of, limit, float_units, decimal_units}
+use Rattle.reading.specs.Reading.{range_of, limit, float_units, decimal_units, Units}
 use Rattle.reading.specs.declared.decimal.Decimal.{Decimal}
 use Rattle.reading.specs.declared.quantity.Quantity.{Quantity}
 use Rattle.reading.specs.declared.quantity.Quantity.TheVariants.{Tristimulus, Lightness, Opponent}
-use Rattle.reading.specs.Reading.{Units}
 use Rattle.colour.specs.declared.white.White.{White}
 use Rattle.colour.specs.declared.conversion.GridColour.{GridColour}
-use Rattle.colour.specs.Placed.{Reading}
+use Rattle.colour.specs.Placed.{Reading, Written, Placed, converted, place, place_written}
 use Rattle.colour.specs.declared.placed.Values.TheVariants.{Xyz, Lab}
-use Rattle.colour.specs.Placed.{Written}
-use Rattle.colour.specs.Placed.{Placed}
-use Rattle.colour.specs.Placed.{converted, place, place_written}
 use Rattle.colour.specs.declared.refusal.Refusal.TheVariants as Why
 
 -- ---- THE RULES

@@ -10,12 +10,10 @@ use Rattle.reading.specs.declared.decimal.Decimal.{Decimal}
 use Rattle.reading.specs.declared.quantity.Quantity.TheVariants.{Tristimulus, Lightness, Opponent}
 use Rattle.colour.specs.declared.white.White.{White}
 use Rattle.colour.specs.declared.white.White.TheVariants.{D65Ten, D65Two, CTen, CTwo}
-use Rattle.colour.specs.Placed.{Reading}
+use Rattle.colour.specs.Placed.{Reading, Written, take, accepted, place_by, place, place_written}
 use Rattle.colour.specs.declared.placed.Values.TheVariants.{Xyz, Lab}
-use Rattle.colour.specs.Placed.{Written}
 use Rattle.colour.specs.White.{white_of}
 use Rattle.colour.specs.Conversion.{above_cut, f_high, f_low, f, lightness, convert}
-use Rattle.colour.specs.Placed.{take, accepted, place_by, place, place_written}
 use Rattle.colour.specs.declared.refusal.Refusal.TheVariants as Why
 
 -- against this white both come to the same colour of the grid, or to the same refusal

@@ -7,18 +7,16 @@ use Rattle.colour.specs.declared.conversion.GridColour.{GridColour}
 use Rattle.colour.specs.Placed.{Reading}
 use Rattle.sheet.specs.Sheet.{shift, differences, sheet, comparison}
 use Rattle.sheet.specs.declared.shift.Shift.{Shift}
-use Rattle.ticket.specs.Ticket.{ticket_of}
-use Rattle.ticket.specs.Ticket.{Parsed}
+use Rattle.ticket.specs.Ticket.{ticket_of, Parsed}
 use Rattle.report.specs.Report.{report_text}
 use Rattle.report.specs.Report.Longest.{Printable, report-length-le}
 use Rattle.report.specs.Write.{has_room}
 use Rattle.standard.specs.Refusals.{Fault, refusal}
 use Rattle.standard.proofs.Theorems.Refusals.Laws.{Each, more, refusal_keeps}
-use Rattle.standard.specs.Judgement.{judgement_of, Specimen}
+use Rattle.standard.specs.Judgement.{judgement_of, Specimen, Outcome}
 use Rattle.standard.proofs.Theorems.Judgement.Laws.{in_range}
 use Rattle.standard.specs.declared.accept.Standard.{Standard}
 use Rattle.standard.specs.declared.judge.Judgement.{Judgement}
-use Rattle.standard.specs.Judgement.{Outcome}
 use Rattle.station.specs.Record.{decode}
 use Rattle.calls.specs.Outcome.{judged_by, ticket_outcome}
 use Rattle.calls.specs.Outcome.Each.{judge_each, ticket_each}
@@ -26,8 +24,7 @@ use Rattle.calls.proofs.Theorems.Outcome.Judge.{judged-said}
 use Rattle.calls.proofs.Theorems.Outcome.Ticket.{ticket-said}
 use Rattle.calls.specs.Calls.{Answer, room_fault, judge_call, ticket_call}
 use Rattle.demands.specs.Longest.Figures.{sheet-figures}
-use Rattle.demands.specs.Longest.Names.{not_minus_component, not_minus_of_lighter, not_minus_of_equal}
-use Rattle.demands.specs.Longest.Names.{bracket-differs}
+use Rattle.demands.specs.Longest.Names.{not_minus_component, not_minus_of_lighter, not_minus_of_equal, bracket-differs}
 use Rattle.demands.specs.Longest.{no_longer_report, Short, EnoughRoom}
 pub mod Printed
 

@@ -8,8 +8,7 @@ use Rattle.colour.specs.Conversion.{at_places}
 use Rattle.colour.specs.declared.conversion.GridColour.{GridColour}
 use Rattle.colour.specs.declared.white.White.TheVariants.{D65Ten}
 use Rattle.sheet.specs.Sheet.{chroma, distance², cross, dot, same_hue, hue_change, component, component_h, total}
-use Rattle.sheet.specs.Sheet.{semi_axes_cielab}
-use Rattle.sheet.specs.Sheet.{semi_axes, shift, differences, sheet, comparison, compared, verdict_on}
+use Rattle.sheet.specs.Sheet.{semi_axes_cielab, semi_axes, shift, differences, sheet, comparison, compared, verdict_on}
 use Rattle.sheet.specs.declared.formula.Formula.TheVariants.{CIELAB}
 use Rattle.names.specs.Names.{met, first_met, hue_named, hue_name}
 use Rattle.text.specs.Ascii.{ascii}

@@ -9,10 +9,9 @@ use Rattle.colour.specs.declared.refusal.Refusal.{Refusal}
 use Rattle.text.specs.Put.{put_at, Puts}
 use Rattle.text.proofs.Theorems.Put.Laws.{put-length}
 use Rattle.text.specs.Decimal.{whole_text}
-use Rattle.ticket.specs.Ticket.{ticket_of}
+use Rattle.ticket.specs.Ticket.{ticket_of, Parsed, wrong_line}
 use Rattle.ticket.specs.Ticket.Laws.{ticket_of_long}
 use Rattle.ticket.specs.declared.lines.Ticket.{Ticket}
-use Rattle.ticket.specs.Ticket.{Parsed, wrong_line}
 use Rattle.report.specs.Report.{report_text}
 use Rattle.report.specs.Write.{has_room, Reported}
 use Rattle.standard.specs.declared.judge.Judgement.{Judgement}

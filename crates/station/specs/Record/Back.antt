@@ -10,12 +10,11 @@ use Rattle.colour.proofs.Theorems.Conversion.Laws.{grid_on}
 use Rattle.colour.specs.declared.conversion.GridColour.{GridColour}
 use Rattle.sheet.specs.Settings.{formula_numbered}
 use Rattle.sheet.specs.declared.settings.Settings.{Settings}
-use Rattle.standard.specs.Acceptance.{settings_of, acceptance, Valid}
+use Rattle.standard.specs.Acceptance.{settings_of, acceptance, Valid, Acceptance}
 use Rattle.standard.proofs.Theorems.Acceptance.Laws.{accepted_made, accepted-valid, valid-accepted}
 use Rattle.standard.proofs.Theorems.Acceptance.Numbers.{settings_back, settings-only}
 use Rattle.standard.specs.declared.accept.Standard.{Standard}
 use Rattle.colour.specs.declared.refusal.Refusal.{Refusal}
-use Rattle.standard.specs.Acceptance.{Acceptance}
 use Rattle.station.specs.Record.{le2, le4, two, four, twos_of, of_twos, record_of, encode, settings_in, colour_in}
 use Rattle.station.specs.Record.{placed, held_as, held_by, decode, zeros}
 use Rattle.station.specs.Record.Laws.{decode-held, placed_on_grid, placed_is, placed_at}

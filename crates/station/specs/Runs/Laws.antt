@@ -2,9 +2,8 @@
 -- back as that standard, or as none. Assumes nothing.
 use Rattle.std.specs.Prelude.{◌≡◌, refl, List, [], ◌∷◌, ℕ, length, Ok, Err, Option, Some, None}
 use Rattle.std.proofs.Common.{sym, ap, ◌∙◌}
-use Rattle.standard.specs.Acceptance.{ValidIn}
+use Rattle.standard.specs.Acceptance.{ValidIn, Acceptance}
 use Rattle.standard.specs.declared.accept.Standard.{Standard}
-use Rattle.standard.specs.Acceptance.{Acceptance}
 use Rattle.station.specs.Record.{store_in, decode, zeros}
 use Rattle.station.specs.Record.Laws.{stores}
 use Rattle.station.specs.Record.Back.{length-encode, length-zeros, zeros-empty, decode-encode}

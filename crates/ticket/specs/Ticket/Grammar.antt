@@ -8,9 +8,8 @@ use Rattle.text.specs.Lines.{Line, content, is_ended, lines_of, nth, starts_line
 use Rattle.text.specs.Number.{thousandths_of, signed_of}
 use Rattle.text.specs.Put.{joined, line}
 use Rattle.reading.specs.declared.decimal.Decimal.{Decimal}
-use Rattle.colour.specs.Placed.{Written}
+use Rattle.colour.specs.Placed.{Written, in_space}
 use Rattle.ticket.specs.Ticket.{formula_named, white_named, space_named, space_of, missing_l, missing_c}
-use Rattle.colour.specs.Placed.{in_space}
 use Rattle.colour.specs.declared.placed.Space.{Space}
 use Rattle.ticket.specs.declared.lines.Ticket.{Ticket}
 

@@ -5,19 +5,17 @@ use Rattle.std.proofs.Common.{sym, ap, ◌∙◌, arith, eq-eqb, eqb-true}
 use Rattle.reading.specs.Grid.{value_of}
 use Rattle.reading.proofs.Theorems.Reading.Laws.{lightness_back_and_read, opponent_back_and_read}
 use Rattle.colour.specs.Conversion.Ranges.{OnGrid}
-use Rattle.colour.specs.Placed.{take, place_by, place}
+use Rattle.colour.specs.Placed.{take, place_by, place, Reading}
 use Rattle.colour.specs.White.{number_of_white}
 use Rattle.colour.specs.declared.conversion.GridColour.{GridColour}
-use Rattle.colour.specs.Placed.{Reading}
 use Rattle.colour.specs.declared.placed.Values.TheVariants.{Lab}
 use Rattle.colour.specs.declared.white.White.{White}
 use Rattle.sheet.specs.Settings.{number_of_formula}
 use Rattle.sheet.specs.declared.settings.Settings.{Settings}
-use Rattle.standard.specs.Acceptance.{settings_of, Valid}
+use Rattle.standard.specs.Acceptance.{settings_of, Valid, Acceptance}
 use Rattle.standard.proofs.Theorems.Acceptance.Laws.{valid-accepted}
 use Rattle.standard.proofs.Theorems.Acceptance.Numbers.{settings_back}
 use Rattle.standard.specs.declared.accept.Standard.{Standard}
-use Rattle.standard.specs.Acceptance.{Acceptance}
 use Rattle.station.specs.Record.{encode, decode}
 use Rattle.station.specs.Record.Laws.{stores}
 use Rattle.station.specs.Record.Back.{decode-encode, decode-stands, decode-only}

@@ -4,14 +4,13 @@ use Rattle.std.specs.Prelude.{◌≡◌, List, ℕ, Result, Ok}
 use Rattle.std.proofs.Common.{subst, sym}
 use Rattle.colour.specs.Placed.{Reading}
 use Rattle.ticket.specs.Ticket.{Parsed}
-use Rattle.standard.specs.Judgement.{judgement_of, Specimen}
+use Rattle.standard.specs.Judgement.{judgement_of, Specimen, Outcome}
 use Rattle.standard.specs.Figures.{reference_answer, specimen_answer}
 use Rattle.standard.proofs.Theorems.Figures.Exact.{ReferenceExact, reference-exact, SpecimenExact, specimen-exact}
 use Rattle.standard.specs.declared.accept.Standard.{Standard}
 use Rattle.sheet.specs.declared.settings.Settings.{Settings}
 use Rattle.colour.specs.declared.refusal.Refusal.{Refusal}
 use Rattle.standard.specs.declared.judge.Judgement.{Judgement}
-use Rattle.standard.specs.Judgement.{Outcome}
 use Rattle.station.specs.Record.{decode}
 use Rattle.calls.specs.Outcome.{loaded, judged_by, ticket_outcome}
 use Rattle.calls.proofs.Theorems.Outcome.Load.{loaded-valid}

@@ -10,15 +10,13 @@ use Rattle.colour.proofs.Theorems.Refusal.{number-some}
 use Rattle.colour.specs.declared.refusal.Refusal.{Refusal}
 use Rattle.colour.specs.Placed.{Reading}
 use Rattle.text.specs.Put.{put_at}
-use Rattle.ticket.specs.Ticket.{ticket_of}
-use Rattle.ticket.specs.Ticket.{Parsed}
+use Rattle.ticket.specs.Ticket.{ticket_of, Parsed}
 use Rattle.report.specs.Report.{report_text}
 use Rattle.report.specs.Write.{has_room}
 use Rattle.standard.specs.Refusals.{Fault, at_room, number_at, first, refusal}
 use Rattle.standard.proofs.Theorems.Refusals.Laws.{first_zero, first_some, refusal-room}
-use Rattle.standard.specs.Acceptance.{settings_of}
+use Rattle.standard.specs.Acceptance.{settings_of, Acceptance}
 use Rattle.standard.specs.declared.accept.Standard.{Standard}
-use Rattle.standard.specs.Acceptance.{Acceptance}
 use Rattle.standard.specs.declared.judge.Judgement.{Judgement}
 use Rattle.standard.specs.Judgement.{Outcome}
 use Rattle.station.specs.Record.{store_in, decode}

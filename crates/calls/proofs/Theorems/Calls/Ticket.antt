@@ -5,17 +5,13 @@ use Rattle.std.specs.Prelude.{◌≡◌, cond, List, ℕ, eqb, Ok, Err, Option, 
 use Rattle.std.proofs.Math.Path.{refl, sym, ap}
 use Rattle.std.proofs.Common.{◌∙◌, ne_eqb}
 use Rattle.colour.specs.Refusal.{number_of_refusal}
-use Rattle.colour.specs.Placed.{place, place_written}
+use Rattle.colour.specs.Placed.{place, place_written, Reading}
 use Rattle.colour.specs.Placed.Same.{PlacedAlike}
-use Rattle.colour.specs.Placed.{Reading}
 use Rattle.colour.specs.declared.white.White.{White}
-use Rattle.ticket.specs.Ticket.{ticket_of}
+use Rattle.ticket.specs.Ticket.{ticket_of, Parsed}
 use Rattle.ticket.specs.declared.lines.Ticket.{Ticket}
-use Rattle.ticket.specs.Ticket.{Parsed}
-use Rattle.standard.specs.Acceptance.{settings_of, acceptance}
-use Rattle.standard.specs.Judgement.{outcome}
-use Rattle.standard.specs.Acceptance.{Acceptance}
-use Rattle.standard.specs.Judgement.{Outcome}
+use Rattle.standard.specs.Acceptance.{settings_of, acceptance, Acceptance}
+use Rattle.standard.specs.Judgement.{outcome, Outcome}
 use Rattle.station.specs.Record.{decode, zeros}
 use Rattle.station.specs.Record.Back.{length-zeros, decode-encode}
 use Rattle.standard.specs.declared.accept.Standard.{Standard}

@@ -6,11 +6,10 @@ use Rattle.colour.specs.Refusal.{refusal_of}
 use Rattle.colour.specs.Placed.{place_written}
 use Rattle.colour.specs.Placed.Exactly.{WrittenOutOfRange, WrittenBeyond}
 use Rattle.colour.proofs.Theorems.Placed.Exactly.Ways.{read-written}
-use Rattle.ticket.specs.Ticket.{ticket_of}
+use Rattle.ticket.specs.Ticket.{ticket_of, Parsed, wrong_line}
 use Rattle.ticket.proofs.Theorems.Ticket.Grammar.Wrong.{wrong_exactly}
 use Rattle.ticket.proofs.Theorems.Ticket.Grammar.Right.{right_exactly}
 use Rattle.ticket.specs.declared.lines.Ticket.{Ticket}
-use Rattle.ticket.specs.Ticket.{Parsed, wrong_line}
 use Rattle.standard.specs.Refusals.{first}
 use Rattle.standard.proofs.Theorems.Refusals.Laws.{refusal-room, refusal_keeps}
 use Rattle.station.specs.Record.Exactly.{FactorsOut, ToleranceOut}

@@ -2,12 +2,11 @@
 use Rattle.std.specs.Prelude.{◌≡◌, refl, List, ℕ, ◌<◌, length, Err, Ok}
 use Rattle.std.proofs.Common.{sym, ap, ◌∙◌, arith}
 use Rattle.colour.specs.Refusal.{refusal_of}
-use Rattle.ticket.specs.Ticket.{ticket_of}
+use Rattle.ticket.specs.Ticket.{ticket_of, Parsed, wrong_line}
 use Rattle.ticket.specs.Ticket.Grammar.{WrongAt, too_long, first_wrong}
 use Rattle.ticket.proofs.Theorems.Ticket.Grammar.Wrong.{wrong_exactly}
 use Rattle.ticket.specs.Ticket.Laws.{ticket_of_long}
 use Rattle.ticket.specs.declared.lines.Ticket.{Ticket}
-use Rattle.ticket.specs.Ticket.{Parsed, wrong_line}
 use Rattle.standard.proofs.Theorems.Refusals.Laws.{refusal_keeps}
 use Rattle.standard.specs.Figures.{specimen_answer}
 use Rattle.calls.specs.Outcome.{ticket_outcome}

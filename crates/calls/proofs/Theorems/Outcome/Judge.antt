@@ -5,17 +5,14 @@ use Rattle.std.proofs.Common.{sym, ap, ◌∙◌, arith}
 use Rattle.colour.specs.Refusal.{number_of_refusal, refusal_of}
 use Rattle.colour.proofs.Theorems.Refusal.{number-some}
 use Rattle.colour.specs.declared.refusal.Refusal.{Refusal}
-use Rattle.colour.specs.Placed.{place}
+use Rattle.colour.specs.Placed.{place, Placed, Reading}
 use Rattle.colour.proofs.Theorems.Placed.Laws.{place_on_grid}
-use Rattle.colour.specs.Placed.{Placed}
-use Rattle.colour.specs.Placed.{Reading}
 use Rattle.standard.specs.Refusals.{at_room, number_at, first_of, refusal}
 use Rattle.standard.proofs.Theorems.Refusals.Laws.{first_zero}
-use Rattle.standard.specs.Judgement.{judgement_of, outcome, Specimen, Judgeable}
+use Rattle.standard.specs.Judgement.{judgement_of, outcome, Specimen, Judgeable, Outcome}
 use Rattle.standard.proofs.Theorems.Judgement.Laws.{Says, judged-says, outcome-number}
 use Rattle.standard.specs.declared.accept.Standard.{Standard}
 use Rattle.standard.specs.declared.judge.Judgement.{Judgement}
-use Rattle.standard.specs.Judgement.{Outcome}
 use Rattle.station.specs.Record.{decode}
 use Rattle.station.specs.Record.Back.{decode-stands}
 use Rattle.calls.specs.Outcome.{judged_by, judge_faults}

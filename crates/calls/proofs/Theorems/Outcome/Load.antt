@@ -5,11 +5,9 @@ use Rattle.std.proofs.Math.Path.{refl}
 use Rattle.std.proofs.Common.{sym, ap, ◌∙◌, arith}
 use Rattle.colour.specs.Refusal.{number_of_refusal, refusal_of}
 use Rattle.colour.proofs.Theorems.Refusal.{number-some}
-use Rattle.colour.specs.Placed.{place}
+use Rattle.colour.specs.Placed.{place, Placed, Reading}
 use Rattle.colour.proofs.Theorems.Placed.Laws.{place_on_grid}
 use Rattle.colour.specs.White.{white_numbered}
-use Rattle.colour.specs.Placed.{Placed}
-use Rattle.colour.specs.Placed.{Reading}
 use Rattle.colour.specs.declared.white.White.{White}
 use Rattle.sheet.specs.Settings.{formula_numbered}
 use Rattle.sheet.specs.declared.formula.Formula.{Formula}

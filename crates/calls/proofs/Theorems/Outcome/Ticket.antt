@@ -8,23 +8,19 @@ use Prim.Native.Nat.{ℕ}
 use Rattle.colour.specs.Refusal.{number_of_refusal, refusal_of}
 use Rattle.colour.proofs.Theorems.Refusal.{number-some}
 use Rattle.colour.specs.declared.refusal.Refusal.{Refusal}
-use Rattle.colour.specs.Placed.{place_written}
+use Rattle.colour.specs.Placed.{place_written, Placed, Written}
 use Rattle.colour.proofs.Theorems.Placed.Laws.{written_on_grid}
-use Rattle.colour.specs.Placed.{Placed}
-use Rattle.colour.specs.Placed.{Written}
 use Rattle.colour.specs.declared.white.White.{White}
 use Rattle.ticket.specs.declared.lines.Ticket.{Ticket}
 use Rattle.ticket.specs.Ticket.{Parsed}
 use Rattle.standard.specs.Refusals.{at_l, at_c, at_tolerance, at_reference, at_room, number_at, first, first_of, refusal}
 use Rattle.standard.proofs.Theorems.Refusals.Laws.{first_zero, first_some, first_of-append}
-use Rattle.standard.specs.Acceptance.{range_faults, accept_faults, acceptance}
+use Rattle.standard.specs.Acceptance.{range_faults, accept_faults, acceptance, Acceptance}
 use Rattle.standard.proofs.Theorems.Acceptance.Laws.{accepted-valid, accept-number}
-use Rattle.standard.specs.Judgement.{judgement_of, outcome, Specimen, Judgeable}
+use Rattle.standard.specs.Judgement.{judgement_of, outcome, Specimen, Judgeable, Outcome}
 use Rattle.standard.proofs.Theorems.Judgement.Laws.{Says, judged-says, outcome-number}
 use Rattle.standard.specs.declared.accept.Standard.{Standard}
-use Rattle.standard.specs.Acceptance.{Acceptance}
 use Rattle.standard.specs.declared.judge.Judgement.{Judgement}
-use Rattle.standard.specs.Judgement.{Outcome}
 use Rattle.calls.specs.Outcome.{judged_after, ticket_outcome, ticket_faults}
 
 -- a written reading that is refused has a number

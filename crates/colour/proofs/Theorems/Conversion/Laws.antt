@@ -8,8 +8,7 @@ use borrow.Author.Tests.{leb-true, le-leb, ltb-true, ltb-false}
 use Rattle.rounding.specs.Fraction.{le-div, div-lt, div-le}
 use Rattle.rounding.specs.Root.{root_law}
 use Rattle.rounding.proofs.Theorems.Root.Laws.{le-root, root-lt}
-use Rattle.reading.specs.Reading.{range_of, is_within}
-use Rattle.reading.specs.Reading.{Within}
+use Rattle.reading.specs.Reading.{range_of, is_within, Within}
 use Rattle.reading.proofs.Theorems.Reading.Laws.{abs_le_of_within, not_minus_of_within, is_lightness_lem, is_opponent_lem}
 use Rattle.reading.proofs.Theorems.Reading.Laws.{opponent-le}
 use Rattle.reading.specs.declared.quantity.Quantity.TheVariants.{Lightness, Opponent}

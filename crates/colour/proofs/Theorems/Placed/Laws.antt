@@ -4,25 +4,21 @@ use Rattle.std.specs.Prelude.{◌≡◌, Bool, true, false, ◌&&◌, ◌||◌, 
 use Rattle.std.proofs.Math.Path.{refl}
 use Rattle.std.proofs.Common.{sym, ap, subst, ◌∙◌, inl, inr, zero-le, arith, le-ltb, leb-true, leb-false}
 use Rattle.rounding.specs.Signed.{∣◌∣, minus}
-use Rattle.reading.specs.Reading.{Within, range_of, limit, is_within, float_units, decimal_units}
+use Rattle.reading.specs.Reading.{Within, range_of, limit, is_within, float_units, decimal_units, Units}
 use Rattle.reading.proofs.Theorems.Reading.Laws.{float-units-within, decimal_units_in, decimal_units_out}
 use Rattle.reading.proofs.Theorems.Reading.Laws.{decimal-units-within, abs_le_of_within, not_minus_of_within, opponent-le}
 use Rattle.reading.specs.declared.decimal.Decimal.{Decimal}
 use Rattle.reading.specs.declared.quantity.Quantity.{Quantity}
 use Rattle.reading.specs.declared.quantity.Quantity.TheVariants.{Tristimulus, Lightness, Opponent}
-use Rattle.reading.specs.Reading.{Units}
 use Rattle.colour.specs.declared.white.White.{White}
 use Rattle.colour.specs.declared.conversion.GridColour.{GridColour}
-use Rattle.colour.specs.Placed.{Reading}
+use Rattle.colour.specs.Placed.{Reading, Written, Placed, take_lab, place_by, place, place_written}
 use Rattle.colour.specs.declared.placed.Values.TheVariants.{Xyz, Lab}
-use Rattle.colour.specs.Placed.{Written}
-use Rattle.colour.specs.Placed.{Placed}
 use Rattle.colour.specs.White.{white_of}
 use Rattle.colour.specs.Conversion.{bs6923, lightness, convert}
 use Rattle.colour.proofs.Theorems.Conversion.Laws.{lightness-le}
 use Rattle.colour.specs.Conversion.Ranges.{Against, OnGrid}
 use Rattle.colour.specs.Placed.{is_not_finite, fault, take, accepted, converted, place_xyz, place_lab, take_xyz}
-use Rattle.colour.specs.Placed.{take_lab, place_by, place, place_written}
 use Rattle.colour.specs.Placed.Ranges.{XyzWithin}
 use Rattle.colour.proofs.Theorems.Placed.Ways.{Takes, handed, refused, takes, measured}
 use Rattle.colour.specs.declared.refusal.Refusal.{Refusal}

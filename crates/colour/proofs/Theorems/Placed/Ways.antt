@@ -2,19 +2,17 @@
 use Rattle.std.specs.Prelude.{◌≡◌, refl, Bool, true, false, ◌||◌, cond, ℕ, ◌≤◌, ℤ, Ok, Err}
 use Rattle.std.proofs.Math.Path.{ap}
 use Rattle.std.proofs.Common.{arith}
-use Rattle.reading.specs.Reading.{range_of, is_within}
+use Rattle.reading.specs.Reading.{range_of, is_within, Units}
 use Rattle.reading.specs.declared.quantity.Quantity.{Quantity}
 use Rattle.reading.specs.declared.quantity.Quantity.TheVariants.{Tristimulus, Lightness, Opponent}
-use Rattle.reading.specs.Reading.{Units}
 use Rattle.reading.specs.declared.quantity.ReadError.TheVariants.{NotFinite, OutOfRange}
 use Rattle.colour.specs.declared.white.White.{White}
 use Rattle.colour.specs.declared.white.White.TheVariants.{D65Ten, D65Two, CTen, CTwo}
 use Rattle.colour.specs.declared.white.TristimulusValues.{TristimulusValues}
 use Rattle.colour.specs.declared.conversion.GridColour.{GridColour}
-use Rattle.colour.specs.Placed.{Placed}
+use Rattle.colour.specs.Placed.{Placed, is_not_finite, fault, take, accepted, place_xyz, place_lab, take_xyz, take_lab}
 use Rattle.colour.specs.White.{white_of}
 use Rattle.colour.specs.Conversion.Ranges.{Against, Measured}
-use Rattle.colour.specs.Placed.{is_not_finite, fault, take, accepted, place_xyz, place_lab, take_xyz, take_lab}
 use Rattle.colour.specs.declared.refusal.Refusal.{Refusal}
 use Rattle.colour.specs.declared.refusal.Refusal.TheVariants as Why
 

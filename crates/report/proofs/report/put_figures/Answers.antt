@@ -3,11 +3,10 @@ use Rattle.std.proofs.Common.{◌≡◌, refl, Bool, false, List, ℕ, sym, ap, 
 use Rattle.std.specs.Prelude.{ℤ}
 use Rattle.sheet.specs.declared.differences.Differences.{Differences}
 use Rattle.text.specs.declared.decimal.Shown.{Shown}
-use Rattle.lines.specs.Lines.{figure}
+use Rattle.lines.specs.Lines.{figure, signed_figure}
 use Rattle.text.specs.Put.{Room, joined}
 use Rattle.text.proofs.Theorems.Put.Laws.{RoomForAll, room_as, puts_as, room_for_all, room_first, room-second, room-third}
 use Rattle.text.proofs.Theorems.Put.Laws.{room-fourth, puts_four, puts_joined}
-use Rattle.lines.specs.Lines.{signed_figure}
 use Rattle.report.specs.Report.{figure_lines}
 use Rattle.report.specs.Report.Laws.{figures_shown, figures-shown}
 use Rattle.report.proofs.report.put_figures.Goals as goal

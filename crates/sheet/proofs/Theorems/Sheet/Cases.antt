@@ -8,9 +8,8 @@ use Rattle.colour.specs.declared.white.White.TheVariants.{D65Ten}
 use Rattle.colour.specs.White.{white_of}
 use Rattle.colour.specs.Conversion.{bs6923, above_cut, f_high, f_low, f, lightness, convert, at_places}
 use Rattle.sheet.specs.Sheet.{chroma, distance², cross, dot, same_hue, hue_change, semi_axis_l, semi_axis_c, second_form}
-use Rattle.sheet.specs.Sheet.{semi_axis_c94, semi_axis_h94, component, component_h, total}
+use Rattle.sheet.specs.Sheet.{semi_axis_c94, semi_axis_h94, component, component_h, total, compared, verdict}
 use Rattle.sheet.specs.Sheet.{hue_semi_axis, semi_axes_cielab, semi_axes_cmc, semi_axes, shift, differences, sheet}
-use Rattle.sheet.specs.Sheet.{compared, verdict}
 use Rattle.sheet.specs.declared.differences.Differences.{Differences}
 use Rattle.sheet.specs.declared.formula.Formula.TheVariants.{CIELAB, CMC}
 use Rattle.sheet.specs.declared.verdict.Verdict.TheVariants.{Near, Pass, Fail}

@@ -14,13 +14,11 @@ use Rattle.colour.specs.declared.conversion.GridColour.{GridColour}
 use Rattle.colour.specs.Conversion.{Lab}
 use Rattle.sheet.specs.Settings.{Factor}
 use Rattle.sheet.specs.Sheet.{chroma, chroma_of, distance², change, semi_axis_h, hue_q, hue_w, hue_semi_axis, semi_axis_c}
-use Rattle.sheet.specs.Sheet.{semi_axis_c94}
+use Rattle.sheet.specs.Sheet.{semi_axis_c94, semi_axes_cmc, semi_axes, shift, factor_under, differences}
 use Rattle.sheet.specs.Sheet.{semi_axis_h94, component, component_h, total, semi_axes_cielab, semi_axes_cie94}
-use Rattle.sheet.specs.Sheet.{semi_axes_cmc, semi_axes, shift, factor_under, differences}
 use Rattle.sheet.specs.Sheet.{sheet, compared, verdict}
 use Rattle.sheet.proofs.Theorems.Sheet.Laws.{chroma-pos, le-semi_axis_l, le-semi_axis_c, hue_w-pos, hue_semi_axis_by_G, abs-change}
-use Rattle.sheet.proofs.Theorems.Sheet.Laws.{hue_change-zero, abs-component}
-use Rattle.sheet.proofs.Theorems.Sheet.Laws.{abs-component_h}
+use Rattle.sheet.proofs.Theorems.Sheet.Laws.{hue_change-zero, abs-component, abs-component_h}
 use Rattle.sheet.specs.declared.semi_axes.SemiAxes.{SemiAxes}
 use Rattle.sheet.specs.declared.differences.Differences.{Differences}
 use Rattle.sheet.specs.declared.formula.Formula.{Formula}

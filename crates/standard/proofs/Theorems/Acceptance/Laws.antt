@@ -16,8 +16,7 @@ use Rattle.sheet.specs.declared.settings.Settings.{Settings}
 use Rattle.standard.specs.declared.accept.Standard.{Standard}
 use Rattle.standard.specs.Refusals.{at_l, at_c, at_tolerance, number_at, first, first_of, refusal}
 use Rattle.standard.proofs.Theorems.Refusals.Laws.{first_zero, first_some, first_of-append}
-use Rattle.standard.specs.Acceptance.{range_faults, accept_faults, acceptance, Valid, ValidIn}
-use Rattle.standard.specs.Acceptance.{PlacedOn}
+use Rattle.standard.specs.Acceptance.{range_faults, accept_faults, acceptance, Valid, ValidIn, PlacedOn}
 
 -- ---- the ranges' own refusal: each way out
 

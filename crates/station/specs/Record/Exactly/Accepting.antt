@@ -15,11 +15,10 @@ use Rattle.sheet.specs.declared.formula.Formula.TheVariants.{CIELAB, CIE94, CMC}
 use Rattle.sheet.specs.declared.settings.Settings.{Settings}
 use Rattle.colour.specs.Refusal.{number_of_refusal}
 use Rattle.standard.specs.Refusals.{refusal}
-use Rattle.standard.specs.Acceptance.{named, settings_of, range_faults, acceptance}
+use Rattle.standard.specs.Acceptance.{named, settings_of, range_faults, acceptance, Acceptance}
 use Rattle.standard.proofs.Theorems.Acceptance.Laws.{l_out, c_out, tolerance_out as tolerance-off, all_in}
 use Rattle.standard.proofs.Theorems.Acceptance.Laws.{settings-refused, reference-refused, is_accepted}
 use Rattle.colour.specs.declared.refusal.Refusal.{Refusal}
-use Rattle.standard.specs.Acceptance.{Acceptance}
 use Rattle.station.specs.Record.Exactly.{Outside, NoFormula, NoWhite, FactorsOut, ToleranceOut}
 use Rattle.colour.specs.declared.refusal.Refusal.TheVariants as Why
 

@@ -20,9 +20,8 @@ use Rattle.station.specs.Record.Laws.{decode-held, decode-other, placed_at, plac
 use Rattle.station.specs.Record.Exactly.{NoFormula, NoWhite, FactorsOut, ToleranceOut}
 use Rattle.station.specs.Record.Exactly.{NoStandard, of_length, of_formula, of_white}
 use Rattle.station.specs.Record.Exactly.{of_factors, of_tolerance, of_lightness, of_a, of_b}
-use Rattle.station.specs.Record.Exactly.Accepting.{Named, no_formula_lem, no_white_lem, are, names}
+use Rattle.station.specs.Record.Exactly.Accepting.{Named, no_formula_lem, no_white_lem, are, names, accepts, accepting}
 use Rattle.station.specs.Record.Exactly.Accepting.{Accepts, factors_out, tolerance_out, reference_out}
-use Rattle.station.specs.Record.Exactly.Accepting.{accepts, accepting}
 use Rattle.colour.specs.declared.refusal.Refusal.TheVariants as Why
 
 data OffGrid (c : GridColour) : Type 0 where

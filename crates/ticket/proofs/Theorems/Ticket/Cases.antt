@@ -6,10 +6,9 @@ use Rattle.text.specs.Ascii.{ascii}
 use Rattle.colour.specs.declared.placed.Values.TheVariants.{Xyz, Lab}
 use Rattle.colour.specs.declared.white.White.TheVariants.{D65Ten}
 use Rattle.sheet.specs.declared.formula.Formula.TheVariants.{CMC}
-use Rattle.ticket.specs.Ticket.{Parsed, wrong_line}
+use Rattle.ticket.specs.Ticket.{Parsed, wrong_line, named, reading_of, due, nothing_more}
 use Rattle.text.specs.Bytes.{index_of, before, after, starts_with, same_bytes}
 use Rattle.text.specs.Number.{numeral, digits_of, fraction_of, decimal_of, decimal_below, signed_of}
-use Rattle.ticket.specs.Ticket.{named, reading_of, due, nothing_more}
 use Rattle.ticket.specs.Ticket.{test_line, ref_line, space_line, tol_line, c_line, factor_lines, white_line, ticket_of}
 
 abbrev answer : String → Parsed

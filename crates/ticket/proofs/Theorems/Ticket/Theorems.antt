@@ -2,7 +2,7 @@
 use Rattle.std.specs.Prelude.{ℕ, ◌≤◌, ◌<◌, ◌≡◌, refl, List, length, Ok}
 use Rattle.std.proofs.Common.{sym, arith}
 use Rattle.std.proofs.Math.Logic.{inl, inr}
-use Rattle.ticket.specs.Ticket.{missing_l, missing_c, ticket_of}
+use Rattle.ticket.specs.Ticket.{missing_l, missing_c, ticket_of, wrong_line}
 use Rattle.ticket.specs.Ticket.Grammar.{Place, all_places, without_l_and_c, text_of}
 use Rattle.ticket.proofs.Theorems.Ticket.Grammar.Lengths.{at_most, text-few}
 use Rattle.ticket.proofs.Theorems.Ticket.Grammar.Right.{right_exactly}
@@ -10,7 +10,6 @@ use Rattle.ticket.specs.Ticket.Laws.{ticket_of_long}
 use Rattle.ticket.specs.Ticket.Print.{printed, print_ticket, print_short, Writable}
 use Rattle.ticket.proofs.Theorems.Ticket.Print.Laws.{printed-said}
 use Rattle.ticket.specs.declared.lines.Ticket.{Ticket}
-use Rattle.ticket.specs.Ticket.{wrong_line}
 
 module _ (t : Ticket) (w : Writable t) where
   few : (ps : List Place) → length (text_of (printed t) ps) ≤ at_most ps

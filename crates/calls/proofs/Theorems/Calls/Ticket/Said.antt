@@ -2,16 +2,13 @@
 -- some. Assumes nothing.
 use Rattle.std.specs.Prelude.{◌≡◌, refl, ◌⊎◌, List, ℕ, Ok, Err}
 use Rattle.std.proofs.Common.{sym, ap, ◌∙◌, inl, inr}
-use Rattle.colour.specs.Placed.{place_written}
+use Rattle.colour.specs.Placed.{place_written, Placed, Reading, Written}
 use Rattle.colour.proofs.Theorems.Placed.Laws.{written_on_grid, written-refused}
 use Rattle.colour.specs.Placed.Same.{PlacedAlike, SaysTheSame, same_value_same_place}
 use Rattle.colour.specs.Placed.Same.{out_of_range, six_in_every_white, beyond_the_grid, eight_in_every_white}
 use Rattle.colour.specs.White.{number_of_white}
 use Rattle.colour.specs.declared.refusal.Refusal.{Refusal}
 use Rattle.colour.specs.declared.refusal.Refusal.TheVariants as Why
-use Rattle.colour.specs.Placed.{Placed}
-use Rattle.colour.specs.Placed.{Reading}
-use Rattle.colour.specs.Placed.{Written}
 use Rattle.colour.specs.declared.white.White.{White}
 use Rattle.sheet.specs.Settings.{number_of_formula}
 use Rattle.sheet.specs.declared.settings.Settings.{Settings}

@@ -3,9 +3,7 @@ use Rattle.std.specs.Prelude.{◌≡◌, refl, ◌↔◌, Ok, Err}
 use Rattle.std.proofs.Common.{ap, arith}
 use Rattle.colour.specs.declared.white.White.{White}
 use Rattle.colour.specs.declared.conversion.GridColour.{GridColour}
-use Rattle.colour.specs.Placed.{Reading}
-use Rattle.colour.specs.Placed.{Written}
-use Rattle.colour.specs.Placed.{Placed}
+use Rattle.colour.specs.Placed.{Reading, Written, Placed}
 use Rattle.colour.specs.Refusal.{refusal_of}
 use Rattle.colour.specs.Placed.Exactly.{Read, not_finite, out, beyond, at, ReadingRows, WrittenRows}
 use Rattle.colour.proofs.Theorems.Placed.Exactly.Ways.{read, read-written}

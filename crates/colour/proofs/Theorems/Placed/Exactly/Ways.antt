@@ -5,23 +5,19 @@ use Rattle.std.specs.Float.{nan, inf, fin}
 use Rattle.std.specs.Float.Ieee.{up, down}
 use Rattle.rounding.specs.Nearest.{rounded}
 use Rattle.rounding.specs.Signed.{∣◌∣}
-use Rattle.reading.specs.Reading.{Range, range_of, limit, is_within, in_units, float_units, decimal_units}
+use Rattle.reading.specs.Reading.{Range, range_of, limit, is_within, in_units, float_units, decimal_units, Units}
 use Rattle.reading.proofs.Theorems.Reading.Laws.{is_opponent_lem, opponent-le}
 use Rattle.reading.specs.declared.decimal.Decimal.{Decimal}
 use Rattle.reading.specs.declared.quantity.Quantity.{Quantity}
 use Rattle.reading.specs.declared.quantity.Quantity.TheVariants.{Opponent}
-use Rattle.reading.specs.Reading.{Units}
 use Rattle.reading.specs.declared.quantity.ReadError.TheVariants as U
 use Rattle.colour.specs.declared.white.White.{White}
 use Rattle.colour.specs.declared.conversion.GridColour.{GridColour}
-use Rattle.colour.specs.Placed.{Reading}
+use Rattle.colour.specs.Placed.{Reading, Written, Placed}
 use Rattle.colour.specs.declared.placed.Values.TheVariants.{Xyz, Lab}
-use Rattle.colour.specs.Placed.{Written}
-use Rattle.colour.specs.Placed.{Placed}
 use Rattle.colour.specs.Placed.{take, accepted, converted, place_xyz, place_lab, place_by, place, place_written}
 use Rattle.colour.specs.Placed.Exactly.{IsNotFinite, NotFinite, FloatOutside, DecimalOutside}
-use Rattle.colour.specs.Placed.Exactly.{OutOfRange, WrittenOutOfRange}
-use Rattle.colour.specs.Placed.Exactly.{Beyond256, ComeBeyond, Beyond, WrittenBeyond}
+use Rattle.colour.specs.Placed.Exactly.{OutOfRange, WrittenOutOfRange, Beyond256, ComeBeyond, Beyond, WrittenBeyond}
 use Rattle.colour.specs.Placed.Exactly.{Read, not_finite, out, beyond, at}
 use Rattle.colour.specs.declared.refusal.Refusal.TheVariants as Why
 

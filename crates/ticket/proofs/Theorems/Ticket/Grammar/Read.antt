@@ -11,13 +11,12 @@ use Rattle.text.specs.Number.{thousandths_of}
 use Rattle.text.specs.Put.{line}
 use Rattle.sheet.specs.declared.settings.Settings.{Settings}
 use Rattle.ticket.specs.Ticket.{formula_named, white_named, space_named, space_of, reading_of, due, nothing_more}
-use Rattle.ticket.specs.Ticket.{test_line, ref_line, space_line, tol_line, c_line, filled, factor_lines}
+use Rattle.ticket.specs.Ticket.{test_line, ref_line, space_line, tol_line, c_line, filled, factor_lines, Parsed}
 use Rattle.ticket.specs.Ticket.{missing_l, missing_c, blank, white_line, ticket_of}
 use Rattle.ticket.specs.Ticket.Grammar.{Place, key, all_places, without_l_and_c, Says, text_of, Consists}
 use Rattle.ticket.proofs.Theorems.Ticket.Grammar.Values.{of_said, says-free}
 use Rattle.ticket.specs.Ticket.Laws.{factors_missing, factors_given, ticket_of_short}
 use Rattle.ticket.specs.declared.lines.Ticket.{Ticket}
-use Rattle.ticket.specs.Ticket.{Parsed}
 
 pub due-line :
     {A : Type 0} (n : ℕ) (key v rest : List ℕ) (value : List ℕ → Option A) (next : A → List ℕ → Parsed) {x : A}

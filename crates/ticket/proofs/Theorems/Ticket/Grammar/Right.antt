@@ -12,12 +12,11 @@ use Rattle.text.specs.Put.{joined, line}
 use Rattle.colour.specs.declared.white.White.{White}
 use Rattle.sheet.specs.declared.formula.Formula.{Formula}
 use Rattle.ticket.specs.Ticket.{formula_named, white_named, due, tol_line, c_line, filled, factor_lines, blank}
-use Rattle.ticket.specs.Ticket.{missing_l, missing_c, white_line, ticket_of}
+use Rattle.ticket.specs.Ticket.{missing_l, missing_c, white_line, ticket_of, wrong_line}
 use Rattle.ticket.specs.Ticket.Grammar.{Place, key, Says, text_of, Consists}
 use Rattle.ticket.proofs.Theorems.Ticket.Grammar.Read.{consists-read}
 use Rattle.ticket.proofs.Theorems.Ticket.Grammar.Spelt.{wrong-right, read, Spelt, from_tol, tol_spelt}
 use Rattle.ticket.specs.declared.lines.Ticket.{Ticket}
-use Rattle.ticket.specs.Ticket.{wrong_line}
 
 -- ---- l and c where they are missing, as their lines would say them
 

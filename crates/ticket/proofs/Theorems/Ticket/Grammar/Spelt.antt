@@ -11,12 +11,11 @@ use Rattle.text.specs.Put.{line}
 use Rattle.colour.specs.Placed.{Written}
 use Rattle.sheet.specs.declared.settings.Settings.{Settings}
 use Rattle.ticket.specs.Ticket.{space_named, space_of, reading_of, or_wrong, due, nothing_more, test_line, ref_line}
-use Rattle.ticket.specs.Ticket.{space_line, tol_line, filled}
+use Rattle.ticket.specs.Ticket.{space_line, tol_line, filled, Parsed, wrong_line}
 use Rattle.ticket.specs.Ticket.Grammar.{Place, key, Reads, Says}
 use Rattle.ticket.proofs.Theorems.Ticket.Grammar.Values.{reads_of, space_of_reads, own_space}
 use Rattle.colour.specs.declared.placed.Space.{Space}
 use Rattle.ticket.specs.declared.lines.Ticket.{Ticket}
-use Rattle.ticket.specs.Ticket.{Parsed, wrong_line}
 
 pub wrong-right : {n : ℕ} {t : Ticket} → wrong_line n ≡ Ok t → ⊥
 wrong-right e = let z : ◌≡◌ {A = ℕ} 0 1 = cc in omega arith

@@ -14,12 +14,11 @@ use Rattle.text.specs.Bytes.{has, before, after, starts_with}
 use Rattle.text.proofs.Theorems.Bytes.Parts.{starts-append, starts_is}
 use Rattle.text.specs.Lines.{Line, content, lines_of, nth}
 use Rattle.text.proofs.Theorems.Lines.Laws.{lines_of_has, first_ended, first_not_ended, some_line}
-use Rattle.ticket.specs.Ticket.{or_wrong, due, nothing_more}
+use Rattle.ticket.specs.Ticket.{or_wrong, due, nothing_more, Parsed, wrong_line}
 use Rattle.ticket.specs.Ticket.Grammar.{Place, key, form_of, RightFor, WrongAt, first_wrong}
 use Rattle.ticket.specs.Ticket.Grammar.{RightAt, right-line, nothing_follows, RightBefore}
 use Rattle.ticket.proofs.Theorems.Ticket.Grammar.Tells.{Tells}
 use Rattle.ticket.specs.declared.lines.Ticket.{Ticket}
-use Rattle.ticket.specs.Ticket.{Parsed, wrong_line}
 
 -- reading has come to line n: ps are its place and those after it, and r is the text from there on
 pub record Due (s : List ℕ) (n : ℕ) (ps : List Place) (r : List ℕ) : Type 0 where

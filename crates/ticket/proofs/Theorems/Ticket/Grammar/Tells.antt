@@ -3,13 +3,12 @@ use Rattle.std.specs.Prelude.{ℕ, ◌≡◌, false, List, Option, None, Some}
 use Rattle.std.proofs.Common.{sym, ap, ◌∙◌}
 use Rattle.std.proofs.lemmas.Option.{none-some}
 use Rattle.text.specs.Number.{decimal_below, thousandths_of}
-use Rattle.colour.specs.Placed.{Written}
+use Rattle.colour.specs.Placed.{Written, in_space}
 use Rattle.colour.specs.declared.white.White.{White}
 use Rattle.colour.specs.declared.white.White.TheVariants.{D65Ten}
 use Rattle.sheet.specs.declared.formula.Formula.{Formula}
 use Rattle.sheet.specs.declared.formula.Formula.TheVariants.{CMC}
 use Rattle.ticket.specs.Ticket.{formula_named, white_named, space_named, reading_of}
-use Rattle.colour.specs.Placed.{in_space}
 use Rattle.ticket.specs.Ticket.Grammar.{Place, Says}
 use Rattle.ticket.proofs.Theorems.Ticket.Grammar.Values.{reads_of, of_reads, space_in_lem, own_space}
 use Rattle.colour.specs.declared.placed.Space.{Space}

@@ -11,13 +11,12 @@ use Rattle.text.specs.Names.{formula_name, white_name}
 use Rattle.text.specs.Number.{digits_of, both, decimal_of, signed_of}
 use Rattle.text.specs.Put.{joined}
 use Rattle.reading.specs.declared.decimal.Decimal.{Decimal}
-use Rattle.colour.specs.Placed.{Written}
+use Rattle.colour.specs.Placed.{Written, in_space}
 use Rattle.colour.specs.declared.white.White.{White}
 use Rattle.colour.specs.declared.white.White.TheVariants.{D65Ten, D65Two, CTen, CTwo}
 use Rattle.sheet.specs.declared.formula.Formula.{Formula}
 use Rattle.sheet.specs.declared.formula.Formula.TheVariants.{CIELAB, CIE94, CMC}
 use Rattle.ticket.specs.Ticket.{space_name, space_of, reading_of}
-use Rattle.colour.specs.Placed.{in_space}
 use Rattle.ticket.specs.Ticket.Grammar.{Place, Reads, Says}
 use Rattle.ticket.proofs.Theorems.Ticket.Grammar.Free.{decimal-free, signed-free, named_is}
 use Rattle.ticket.proofs.Theorems.Ticket.Grammar.Parted.{both_some}

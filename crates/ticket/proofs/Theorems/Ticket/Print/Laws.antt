@@ -5,14 +5,13 @@ use Rattle.text.specs.Bytes.{starts_with, same_bytes}
 use Rattle.text.specs.Names.{formula_name, white_name}
 use Rattle.text.proofs.Theorems.Number.Written.{thousandths-written, signed-written}
 use Rattle.reading.specs.declared.decimal.Decimal.{Decimal}
-use Rattle.colour.specs.Placed.{Written}
+use Rattle.colour.specs.Placed.{Written, in_space}
 use Rattle.colour.specs.declared.placed.Values.TheVariants as W
 use Rattle.colour.specs.declared.white.White.{White}
 use Rattle.colour.specs.declared.white.White.TheVariants.{D65Ten, D65Two, CTen, CTwo}
 use Rattle.sheet.specs.declared.formula.Formula.{Formula}
 use Rattle.sheet.specs.declared.formula.Formula.TheVariants.{CIELAB, CIE94, CMC}
 use Rattle.ticket.specs.Ticket.{named, formula_named, white_named, space_name, space_named, space_of}
-use Rattle.colour.specs.Placed.{in_space}
 use Rattle.ticket.specs.Ticket.Grammar.{Place, Reads, Says}
 use Rattle.ticket.specs.Ticket.Print.{number, triple, reading_text, printed, Fits, Writable}
 use Rattle.colour.specs.declared.placed.Space.{Space}
