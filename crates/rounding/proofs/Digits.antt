@@ -1,14 +1,14 @@
 -- Roots one binary digit at a time, over the exponent e, as on paper. The digits of x are marked off from the right in
 -- groups of e, and `left` groups are still to be brought down. What is known between two digits (`Found`); the first
--- digit (`found_first`); one digit more (`found-zero`, `found_one`). Assumes nothing.
+-- digit (`found_first`); one digit more (`found-zero`, `found_one`); the end (`found_all`). Assumes nothing.
 use mathlib.Core.Path.{◌≡◌, refl, sym, ap, ◌∙◌}
 use Prim.Native.Nat.{ℕ, suc, ◌+◌, ◌-◌, ◌*◌, ◌/◌, ◌%◌, ◌^◌, ◌≤◌, ◌<◌}
-use native.Mathlib.Nat.{mul-one, mul-suc, mul_assoc, mul-le-mul_left, mul-div-mul_right}
+use native.Mathlib.Nat.{pow-zero, mul-zero, mul-one, mul-suc, mul_assoc, mul-le-mul_left, mul-div-mul_right, div-one}
 use native.Mathlib.Nat.{div-add-mod', add-mul-mod_self_right, mod-lt, mul-div-le, lt-mul-div-succ, le_trans}
-use native.Mathlib.Nat.{mul-lt-mul_of_pos_left, lt_of_lt_of_le}
+use native.Mathlib.Nat.{mul-div_right, mul-lt-mul_of_pos_left, lt_of_lt_of_le}
 use native.Mathlib.Omega.{arith}
 use lib.Count.{count_leading_zeros, leading_top}
-use lib.Pow.{pow-add, pow_mono, pow_pos, shl_exact, shr_lt, shr-shr, split, field}
+use lib.Pow.{pow-add, pow_mono, pow_pos, shl_exact, shr_lt, shr_le, shr-shr, split, field}
 use Rattle.rounding.specs.Root.{root_of, IsRoot, root_law, mul-pow, one_pow}
 use Rattle.rounding.proofs.Theorems.Root.Laws.{root-lt, root_unique, pow-mul}
 use Rattle.rounding.specs.Fraction.{le-div}
@@ -154,6 +154,9 @@ module _ {z e x turns turn root rest down : ℕ}
       wide : 64 - e + e ≤ 64
       wide = omega (arith, h.within, one_group)
 
+  pub there_fits : down_there < 2 ^ 64
+  there_fits = rw there_is (omega (arith, brought lead some rooted, shr_le x less))
+
   found_next : {r s : ℕ} (d : ℕ) → r ≡ z * d → Rooted e lead d s → Found z e x (turns - (turn + 1)) r s (down * 2 ^ e % 2 ^ 64)
   found_next d held leading =
       record {
@@ -176,7 +179,7 @@ module _ {z e x turns turn root rest down : ℕ}
         rw there_is
         (found_next (2 * h.digits + 1) (omega (arith, h.held)) (digit_one lead some rooted m takes (rw there_is at enough)))
 
--- ---- the first digit
+-- ---- the first digit, and the end
 
 -- the first group of x, which is not 0, has `left` groups behind it
 pub record First (e x left : ℕ) : Type 0 where
@@ -187,6 +190,9 @@ pub record First (e x left : ℕ) : Type 0 where
 module _ {x : ℕ} (some : 0 < x) (fits : x < 2 ^ 64) where
   top : (j : ℕ) × (count_leading_zeros 64 x + suc j ≡ 64) × (2 ^ j ≤ x) × (x < 2 ^ suc j)
   top = leading_top 64 x some fits
+
+  pub zeros-le : count_leading_zeros 64 x ≤ 63
+  zeros-le = omega (arith, top.1)
 
   -- the width of x says where it stands
   pub first_of_width : (e left : ℕ) → 0 < e → left ≡ (63 - count_leading_zeros 64 x) / e → First e x left
@@ -228,3 +234,14 @@ module _ {e x left : ℕ} (some : 0 < e) (h : First e x left) where
     where
       one : IsRoot e (x / 2 ^ (e * left)) 1
       one = record { low = rw one_pow group_some; high = shr_lt e (e * left) h.high }
+
+-- with no group left all of x is the leading part
+pub found_all : {z e x left root rest down : ℕ} →
+    Found z e x left root rest down → left ≤ 0 → 0 < z → root / z ≡ root_of e x
+found_all {z} {e} {x} {left} h none some = rw (h.held, mul-div_right h.digits some) (h.leading.root ∙ whole)
+  where
+    ended : left ≡ 0
+    ended = omega arith
+
+    whole : root_of e (x / 2 ^ (e * left)) ≡ root_of e x
+    whole = rw (ended, mul-zero, pow-zero, div-one)
