@@ -5,7 +5,7 @@ use Rattle.std.proofs.Math.Nat.{sub-zero}
 use lib.Count.{count_leading_zeros}
 use Rattle.rounding.proofs.Theorems.Root.Laws.{root_at}
 use Rattle.rounding.proofs.Digits.{Found, First, first_of_width, group_some, found_first}
-use Rattle.rounding.proofs.Digits.{held-lt, found-zero, found_one}
+use Rattle.rounding.proofs.Digits.{held-lt, found-zero, found_one, found_all}
 use Rattle.rounding.proofs.roots.cube_root.Goals.{then-over-rest, else-over-rest}
 use Rattle.rounding.proofs.roots.cube_root.Goals as goal
 
@@ -60,3 +60,8 @@ loop-preserved c =
           rw (w.root-is, w.rest-is)
           (found-zero three c.ranges.x.fits c.loop-test.true h _ takes (omega (arith, w.if-over-rest.false)))
     ]
+
+-- ---- the end
+
+pub returns : goal.returns
+returns c = found_all c.loop.invariant (omega (arith, c.loop-test.false)) (omega arith)

@@ -4,7 +4,7 @@ use Rattle.std.proofs.Math.Nat.{sub-zero}
 use lib.Count.{count_leading_zeros}
 use Rattle.rounding.proofs.Theorems.Root.Laws.{root_at, sq}
 use Rattle.rounding.proofs.Digits.{Found, First, first_of_width, group_some, found_first}
-use Rattle.rounding.proofs.Digits.{held-lt, found-zero, found_one}
+use Rattle.rounding.proofs.Digits.{held-lt, found-zero, found_one, found_all}
 use Rattle.rounding.proofs.roots.square_root.Goals.{then-root-rest, else-root-rest}
 use Rattle.rounding.proofs.roots.square_root.Goals as goal
 
@@ -56,3 +56,8 @@ loop-preserved c =
       | else-root-rest w ↦
           rw (w.root-is, w.rest-is) (found-zero two c.ranges.x.fits c.loop-test.true h _ takes (omega (arith, w.if-root-rest.false)))
     ]
+
+-- ---- the end
+
+pub returns : goal.returns
+returns c = found_all c.loop.invariant (omega (arith, c.loop-test.false)) (omega arith)
