@@ -7,11 +7,11 @@ use Rattle.reading.proofs.float.float_units.Goals.{then-x-range_end-via-then-x-r
 use Rattle.reading.proofs.float.float_units.Goals as goal
 
 pub returns-then-not-is_finite : goal.returns-then-not-is_finite
-returns-then-not-is_finite c = not_finite _ _ (sym c.is_finite.ensures.value ∙ c.if-not-is_finite.true)
+returns-then-not-is_finite c = not_finite _ _ (sym c.is_finite.ensures ∙ c.if-not-is_finite.true)
 
 pub returns-then-x-range_end : goal.returns-then-x-range_end
 returns-then-x-range_end c =
-    let f = finite_of_test _ (sym c.is_finite.ensures.value ∙ c.if-not-is_finite.false) in
+    let f = finite_of_test _ (sym c.is_finite.ensures ∙ c.if-not-is_finite.false) in
     elim c.then-x-range_end.branch [
       | then-x-range_end-via-then-x-range_end w ↦ out_below c.args.q _ c.range_end.ensures c.args.x f w.if-x-range_end.true
       | then-x-range_end-via-else-x-range_end+then-x-range_end-2 w ↦
@@ -20,13 +20,13 @@ returns-then-x-range_end c =
 
 pub nearest_units-requires : goal.nearest_units-requires
 nearest_units-requires c =
-    let f = finite_of_test _ (sym c.is_finite.ensures.value ∙ c.if-not-is_finite.false) in
+    let f = finite_of_test _ (sym c.is_finite.ensures ∙ c.if-not-is_finite.false) in
     (inside c.args.q _ _ c.range_end.ensures c.range_end-else-x-range_end.ensures c.args.x f c.if-x-range_end.false
     c.if-x-range_end-2.false).small
 
 pub returns : goal.returns
 returns c =
-    let f = finite_of_test _ (sym c.is_finite.ensures.value ∙ c.if-not-is_finite.false) in
+    let f = finite_of_test _ (sym c.is_finite.ensures ∙ c.if-not-is_finite.false) in
     let back : to_z w64 (of_z w64 c.nearest_units.result) ≡ c.nearest_units.result = search rules in
     ap Ok (back ∙ c.nearest_units.ensures)
     ∙ (inside c.args.q _ _ c.range_end.ensures c.range_end-else-x-range_end.ensures c.args.x f c.if-x-range_end.false
