@@ -1,0 +1,2 @@
+-- What the functions' proofs may cite.
+pub mod Laws
