@@ -3,4 +3,5 @@ pub mod Every
 pub mod Exact
 pub mod Laws
 pub mod One
+pub mod Results
 pub mod Ticket

@@ -1,5 +1,6 @@
--- Theorems on `specs/Refusal.antt`: each refusal has a number of its own, and none has 0. Assumes nothing.
-use Rattle.std.specs.Prelude.{◌≡◌, refl, Some, Result, Ok, Err, IsErrAnd}
+-- Theorems on `specs/Refusal.antt`: each refusal has a number of its own, and none has 0; so two results without a value
+-- that have one number are equal. Assumes nothing.
+use Rattle.std.specs.Prelude.{◌≡◌, refl, Some, Result, Ok, Err, IsErrAnd, ⊤}
 use Rattle.std.proofs.Common.{sym, ap, ◌∙◌, arith}
 use Rattle.colour.specs.Refusal.{number_of_refusal, refusal_of, refusal_numbered}
 use Rattle.colour.specs.declared.refusal.Refusal.{Refusal}
@@ -38,6 +39,13 @@ number-some Beyond256 h = omega (arith, h)
 number-some NoStandard h = omega (arith, h)
 number-some Length h = omega (arith, h)
 number-some Count h = omega (arith, h)
+
+-- two results that are `()` or a refusal, and have one number, are equal
+pub one_refusal : (r q : Result ⊤ Refusal) → refusal_of r ≡ refusal_of q → r ≡ q
+one_refusal (Ok x) (Ok y) h = refl
+one_refusal (Ok x) (Err f) h = absurd (number-some f (sym h))
+one_refusal (Err e) (Ok y) h = absurd (number-some e h)
+one_refusal (Err e) (Err f) h = ap Err (number-only e f h)
 
 -- what `?` hands on has the refusal's number
 pub handed-number :

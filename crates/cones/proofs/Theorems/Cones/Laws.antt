@@ -1,5 +1,8 @@
--- What a loop over a delivery goes by (`InTurn/Laws.antt`, with the length of a list for that of its cones); and that
--- the colours of a delivery lie on the grid. Assumes nothing.
+-- The cones of a delivery as three lists: how many readings they are, and what a loop over the lists goes by
+-- (`InTurn/Laws.antt`, with the length of a list for that of the readings). `mean::sum_of` of `delivery` is lent a
+-- `Cones`, which is the list of its readings, and goes by `InTurn/Laws.antt` itself. And the colours of a delivery: they
+-- lie on the grid, and where there are any, the reading of cone i is placed at colour i, as `Cones::colour` has it.
+-- Assumes nothing.
 use Rattle.std.specs.Prelude.{◌≡◌, refl, List, [], ◌∷◌, ◌++◌, ℕ, ◌+◌, ◌≤◌, ◌<◌, Float, length, get_or, Ok, Err}
 use Rattle.std.proofs.Common.{sym, ap, ◌∙◌, not-suc-le-zero, arith}
 use Rattle.rounding.specs.Every.{Every}
@@ -20,7 +23,7 @@ use Rattle.cones.specs.Cones.{readings_of, no_reading, turn_in, cones_in, colour
 pub readings_length : (k : Space) (xs ys zs : List Float) → Even xs ys zs → length (readings_of k xs ys zs) ≡ length xs
 readings_length k xs ys zs e = zip_length _ xs ys zs e
 
--- ---- the loop over a delivery, whatever each cone's turn brings
+-- ---- a loop over the three lists, whatever each cone's turn brings
 
 module _ {W : Type 0} (turn : Reading → Turn W) (k : Space) (xs ys zs : List Float) where
   abbrev pub PassedCones : (i : ℕ) (Q : List W → Type 0) → Type 0
