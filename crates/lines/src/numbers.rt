@@ -73,7 +73,8 @@ pub fn put_number(dst: &mut [u8], at: usize, key: &[u8], d: Shown) -> usize
     put(dst, after_number, b"\n")
 }
 
-// DC= and DH=.
+// DC= and DH=. Taken into its callers, where the key is known: it is a few stores there.
+#[inline(always)]
 pub fn put_chromatic(dst: &mut [u8], at: usize, withheld: bool, key: &[u8], d: Shown) -> usize
     requires { Room dst.old at (line key.now (unless_withheld withheld (decimal_text d))) }
     ensures { Puts dst.old at (line key.now (unless_withheld withheld (decimal_text d))) result

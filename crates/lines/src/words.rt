@@ -25,6 +25,12 @@ pub trait Word: Copy {
         ensures { result.now ≡ word self };
 
     ghost at_most: { (x : Self) → length (word x) ≤ most };
+
+    // Puts the word. An arm for each, beside those of `text`: a text that is known where it is put is a few stores, and
+    // one that was chosen before goes byte by byte.
+    fn put_text(self, dst: &mut [u8], at: usize) -> usize
+        requires { Room dst.old at (word self) }
+        ensures { Puts dst.old at (word self) result dst.new };
 }
 
 impl Word for Formula {
@@ -39,6 +45,14 @@ impl Word for Formula {
             Formula::CIELAB => b"CIELAB",
             Formula::CIE94 => b"CIE94",
             Formula::CMC => b"CMC",
+        }
+    }
+
+    fn put_text(self, dst: &mut [u8], at: usize) -> usize {
+        match self {
+            Formula::CIELAB => put(dst, at, b"CIELAB"),
+            Formula::CIE94 => put(dst, at, b"CIE94"),
+            Formula::CMC => put(dst, at, b"CMC"),
         }
     }
 }
@@ -58,6 +72,15 @@ impl Word for White {
             White::CTwo => b"C/2",
         }
     }
+
+    fn put_text(self, dst: &mut [u8], at: usize) -> usize {
+        match self {
+            White::D65Ten => put(dst, at, b"D65/10"),
+            White::D65Two => put(dst, at, b"D65/2"),
+            White::CTen => put(dst, at, b"C/10"),
+            White::CTwo => put(dst, at, b"C/2"),
+        }
+    }
 }
 
 impl Word for Lightness {
@@ -74,6 +97,14 @@ impl Word for Lightness {
             Lightness::Equal => b"equal",
         }
     }
+
+    fn put_text(self, dst: &mut [u8], at: usize) -> usize {
+        match self {
+            Lightness::Lighter => put(dst, at, b"lighter"),
+            Lightness::Darker => put(dst, at, b"darker"),
+            Lightness::Equal => put(dst, at, b"equal"),
+        }
+    }
 }
 
 impl Word for Chroma {
@@ -88,6 +119,14 @@ impl Word for Chroma {
             Chroma::More => b"more",
             Chroma::Less => b"less",
             Chroma::Equal => b"equal",
+        }
+    }
+
+    fn put_text(self, dst: &mut [u8], at: usize) -> usize {
+        match self {
+            Chroma::More => put(dst, at, b"more"),
+            Chroma::Less => put(dst, at, b"less"),
+            Chroma::Equal => put(dst, at, b"equal"),
         }
     }
 }
@@ -107,6 +146,15 @@ impl Word for Axis {
             Axis::Bluer => b"bluer",
         }
     }
+
+    fn put_text(self, dst: &mut [u8], at: usize) -> usize {
+        match self {
+            Axis::Redder => put(dst, at, b"redder"),
+            Axis::Yellower => put(dst, at, b"yellower"),
+            Axis::Greener => put(dst, at, b"greener"),
+            Axis::Bluer => put(dst, at, b"bluer"),
+        }
+    }
 }
 
 impl Word for Verdict {
@@ -121,6 +169,14 @@ impl Word for Verdict {
             Verdict::Near => b"near",
             Verdict::Pass => b"pass",
             Verdict::Fail => b"fail",
+        }
+    }
+
+    fn put_text(self, dst: &mut [u8], at: usize) -> usize {
+        match self {
+            Verdict::Near => put(dst, at, b"near"),
+            Verdict::Pass => put(dst, at, b"pass"),
+            Verdict::Fail => put(dst, at, b"fail"),
         }
     }
 }
@@ -146,6 +202,14 @@ impl<W: Word> Word for Unless<W> {
             self.word.text()
         }
     }
+
+    fn put_text(self, dst: &mut [u8], at: usize) -> usize {
+        if self.withheld {
+            put(dst, at, b"withheld")
+        } else {
+            self.word.put_text(dst, at)
+        }
+    }
 }
 
 pub fn word_len<W: Word>(w: W) -> usize
@@ -168,7 +232,9 @@ pub fn put_word<W: Word>(dst: &mut [u8], at: usize, key: &[u8], w: W) -> usize
     requires { Room dst.old at (line key.now (W.word w)) }
     ensures { Puts dst.old at (line key.now (W.word w)) result dst.new }
 {
-    put_line(dst, at, key, w.text())
+    let after_key = put(dst, at, key);
+    let after_word = w.put_text(dst, after_key);
+    put(dst, after_word, b"\n")
 }
 
 // A hue says two axes with a bracket, so it is no `Word`: it is put from theirs.
@@ -177,9 +243,9 @@ fn put_axes(dst: &mut [u8], at: usize, name: Axis, bracket: Axis) -> usize
     ensures { Puts dst.old at (joined (axes_pieces name bracket)) result dst.new }
 {
     let after_key = put(dst, at, b"hue=");
-    let after_name = put(dst, after_key, name.text());
+    let after_name = name.put_text(dst, after_key);
     let after_open = put(dst, after_name, b"(");
-    let after_bracket = put(dst, after_open, bracket.text());
+    let after_bracket = bracket.put_text(dst, after_open);
     put(dst, after_bracket, b")\n")
 }
 

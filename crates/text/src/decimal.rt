@@ -15,11 +15,11 @@ pub struct Shown {
     pub units: u64,
 }
 
-// How many digits n has.
+// How many digits n has. Most have one, and need no logarithm.
 pub fn whole_len(n: u64) -> usize
     ensures { (result ≡ length (whole_text n)) × (result ≤ 20) }
 {
-    n.checked_ilog10().map_or(1, |k| k as usize + 1)
+    if n < 10 { 1 } else { n.ilog10() as usize + 1 }
 }
 
 // Puts the last k digits of n, from the last one back.
@@ -35,12 +35,17 @@ fn put_digits(dst: &mut [u8], at: usize, k: usize, n: u64) -> usize
     at + k
 }
 
-// Puts a whole number.
+// Puts a whole number: of one digit, which most have, without a loop.
 pub fn put_whole(dst: &mut [u8], at: usize, n: u64) -> usize
     requires { Room dst.old at (whole_text n) }
     ensures { Puts dst.old at (whole_text n) result dst.new }
 {
-    put_digits(dst, at, whole_len(n), n)
+    if n < 10 {
+        dst[at] = b'0' + n as u8;
+        at + 1
+    } else {
+        put_digits(dst, at, whole_len(n), n)
+    }
 }
 
 fn put_minus(dst: &mut [u8], at: usize, shows: bool) -> usize

@@ -130,6 +130,13 @@ width_of_power (suc k) n few low high =
 pub whole_length : (n : ℕ) → length (whole_text n) ≡ width n
 whole_length n = last_digits_length (width n) n
 
+-- a digit by itself
+pub whole_digit : (n : ℕ) → n < 10 → whole_text n ≡ (48 + n) ∷ []
+unfolding last_digits
+whole_digit n h =
+    rw (width_small n h)
+    (let e : n / 10 ^ 0 % 10 ≡ n = omega (arith, pow-zero 10) in ap (λ (d : ℕ). (48 + d) ∷ []) e)
+
 -- ---- a decimal
 
 pub decimal-length :

@@ -76,6 +76,15 @@ part-put xs at s h =
 pub puts_nil : (xs : List ℕ) (at : ℕ) → Puts xs at [] at xs
 puts_nil xs at = record { end = sym (add-zero at); bytes = sym (put-nil xs at) }
 
+pub puts_byte : (xs : List ℕ) (at b : ℕ) → Room xs at (b ∷ []) → Puts xs at (b ∷ []) (at + 1) (set xs at b)
+puts_byte xs at b h =
+    record {
+      end = refl;
+      bytes =
+          ap (λ (l : List ℕ). set l at b) (sym (put-nil xs (at + 1)))
+          ∙ put_before xs at [] b (omega (arith, h.room));
+    }
+
 pub puts_length : {xs ys s : List ℕ} {at r : ℕ} → Room xs at s → Puts xs at s r ys → length ys ≡ length xs
 puts_length {xs} {s = s} {at = at} h p = ap length p.bytes ∙ put-length xs at s h.room
 
