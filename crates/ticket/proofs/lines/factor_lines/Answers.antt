@@ -1,14 +1,14 @@
 -- With tol= at its head the text has no lines l and c; else a line l is due, and then a line c. Assumes nothing.
 use Rattle.std.proofs.Common.{ℕ, ◌+◌, sym, ap, ◌∙◌}
-use Rattle.ticket.specs.Ticket.{filled, blank, tol_line, c_line}
+use Rattle.ticket.specs.Ticket.{filled, tol_line, c_line}
 use Rattle.ticket.specs.Ticket.Laws.{due_err, due_ok, handed_on, thousandths_of_nil, factors_missing, factors_given}
 use Rattle.ticket.proofs.lines.factor_lines.Goals as goal
 
 pub returns-then-starts-clause-value : goal.returns-then-starts-clause-value
-returns-then-starts-clause-value c = λ f w. sym (factors_missing _ _ _ c.starts.ensures c.if-starts.true)
+returns-then-starts-clause-value c = sym (factors_missing _ _ _ c.starts.ensures c.if-starts.true)
 
 pub returns-in_err-l-clause-value : goal.returns-in_err-l-clause-value
-returns-in_err-l-clause-value c = λ f w.
+returns-in_err-l-clause-value c =
     rw (handed_on _ _ c.from_residual.ensures)
     (sym (factors_given _ _ _ c.starts.ensures c.if-starts.false)
     ∙ due_err _ _ _ _ _ thousandths_of_nil c.value.ensures c.thousandths.ensures c.wrong.ensures c.ok_or.ensures.value
@@ -16,7 +16,7 @@ returns-in_err-l-clause-value c = λ f w.
 
 pub returns-in_err-c-clause-value : goal.returns-in_err-c-clause-value
 unfolding c_line
-returns-in_err-c-clause-value c = λ f w.
+returns-in_err-c-clause-value c =
     rw (handed_on _ _ c.from_residual-in_err-c.ensures)
     (sym (factors_given _ _ _ c.starts.ensures c.if-starts.false)
     ∙ due_ok _ _ _ _ _ thousandths_of_nil c.value.ensures c.thousandths.ensures c.wrong.ensures c.ok_or.ensures.value
@@ -26,11 +26,11 @@ returns-in_err-c-clause-value c = λ f w.
 
 pub returns-clause-value : goal.returns-clause-value
 unfolding c_line
-returns-clause-value c = λ f w.
+returns-clause-value c =
     sym (factors_given _ _ _ c.starts.ensures c.if-starts.false)
     ∙ due_ok _ _ _ _ _ thousandths_of_nil c.value.ensures c.thousandths.ensures c.wrong.ensures c.ok_or.ensures.value
     c.in_ok-l.was c.next-rest.ensures.text
     ∙ due_ok _ _ _ _ _ thousandths_of_nil c.value-2.ensures c.thousandths-2.ensures
     (c.wrong-2.ensures ∙ c.next-rest.ensures.line) c.ok_or-2.ensures.value c.in_ok-c.was c.next.ensures.text
-    ∙ ap (λ (n : ℕ). tol_line n (filled (blank f w) c.in_ok-l.l c.in_ok-c.c 0) c.next.result.text.now)
+    ∙ ap (λ (n : ℕ). tol_line n (filled c.args.blank c.in_ok-l.l c.in_ok-c.c c.args.blank.tolerance) c.next.result.text.now)
     (sym (c.next.ensures.line ∙ ap (λ (n : ℕ). n + 1) c.next-rest.ensures.line))

@@ -19,17 +19,17 @@ returns-in_err-white-clause-value c =
     ∙ due_err _ _ _ _ _ white_of_nil c.value-2.ensures c.white_named.ensures
     (c.wrong-2.ensures ∙ c.next-rest.ensures.line) c.ok_or-2.ensures.value c.in_err-white.was)
 
-pub returns-in_err-l-clause-value : goal.returns-in_err-l-clause-value
+pub returns-in_err-settings-clause-value : goal.returns-in_err-settings-clause-value
 unfolding white_line
-returns-in_err-l-clause-value c =
-    rw (handed_on _ _ c.from_residual-in_err-l.ensures)
+returns-in_err-settings-clause-value c =
+    rw (handed_on _ _ c.from_residual-in_err-settings.ensures)
     (due_ok _ _ _ _ _ formula_of_nil c.value.ensures c.formula_named.ensures c.wrong.ensures c.ok_or.ensures.value
     c.in_ok-formula.was c.next-rest.ensures.text
     ∙ due_ok _ _ _ _ _ white_of_nil c.value-2.ensures c.white_named.ensures (c.wrong-2.ensures ∙ c.next-rest.ensures.line)
     c.ok_or-2.ensures.value c.in_ok-white.was c.next.ensures.text
     ∙ ap (λ (n : ℕ). factor_lines n (blank c.in_ok-formula.formula c.in_ok-white.white) c.next.result.text.now)
     (sym (c.next.ensures.line ∙ ap (λ (n : ℕ). n + 1) c.next-rest.ensures.line))
-    ∙ c.in_err-l.ensures.value c.in_ok-formula.formula c.in_ok-white.white)
+    ∙ c.in_err-settings.ensures.value)
 
 pub returns-in_err-tolerance-clause-value : goal.returns-in_err-tolerance-clause-value
 unfolding white_line tol_line
@@ -41,22 +41,22 @@ returns-in_err-tolerance-clause-value c =
     c.ok_or-2.ensures.value c.in_ok-white.was c.next.ensures.text
     ∙ ap (λ (n : ℕ). factor_lines n (blank c.in_ok-formula.formula c.in_ok-white.white) c.next.result.text.now)
     (sym (c.next.ensures.line ∙ ap (λ (n : ℕ). n + 1) c.next-rest.ensures.line))
-    ∙ c.in_ok-l.ensures.value c.in_ok-formula.formula c.in_ok-white.white
+    ∙ c.in_ok-settings.ensures.value
     ∙ due_err _ _ _ _ _ thousandths_of_nil c.value-3.ensures c.thousandths.ensures c.wrong-3.ensures
     c.ok_or-3.ensures.value c.in_err-tolerance.was)
 
 pub returns-clause-value : goal.returns-clause-value
 unfolding white_line tol_line
 returns-clause-value c =
-    let blanks = blank c.in_ok-formula.formula c.in_ok-white.white in
+    let p = c.in_ok-settings.settings in
     due_ok _ _ _ _ _ formula_of_nil c.value.ensures c.formula_named.ensures c.wrong.ensures c.ok_or.ensures.value
     c.in_ok-formula.was c.next-rest.ensures.text
     ∙ due_ok _ _ _ _ _ white_of_nil c.value-2.ensures c.white_named.ensures (c.wrong-2.ensures ∙ c.next-rest.ensures.line)
     c.ok_or-2.ensures.value c.in_ok-white.was c.next.ensures.text
     ∙ ap (λ (n : ℕ). factor_lines n (blank c.in_ok-formula.formula c.in_ok-white.white) c.next.result.text.now)
     (sym (c.next.ensures.line ∙ ap (λ (n : ℕ). n + 1) c.next-rest.ensures.line))
-    ∙ c.in_ok-l.ensures.value c.in_ok-formula.formula c.in_ok-white.white
+    ∙ c.in_ok-settings.ensures.value
     ∙ due_ok _ _ _ _ _ thousandths_of_nil c.value-3.ensures c.thousandths.ensures c.wrong-3.ensures
     c.ok_or-3.ensures.value c.in_ok-tolerance.was c.next-2.ensures.text
-    ∙ ap (λ (n : ℕ). space_line n (filled blanks c.in_ok-l.l c.in_ok-l.c c.in_ok-tolerance.tolerance) c.next-2.result.text.now)
+    ∙ ap (λ (n : ℕ). space_line n (filled p p.l p.c c.in_ok-tolerance.tolerance) c.next-2.result.text.now)
     (sym c.next-2.ensures.line)
