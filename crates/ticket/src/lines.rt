@@ -5,7 +5,7 @@ ghost use Rattle.sheet.specs.declared.formula.Formula.{Formula};
 ghost use Rattle.sheet.specs.declared.settings.Settings.{Settings};
 ghost use Rattle.text.specs.Bytes.{after};
 ghost use Rattle.ticket.specs.Ticket.{factor_lines, tol_line, space_line, ticket_of};
-ghost use Rattle.ticket.specs.Ticket.Laws.{value_of, formula_line, GoesOn};
+ghost use Rattle.ticket.specs.Ticket.Laws.{value_of, formula_line, GoesOn, Next, factors_then, settings_then};
 
 use crate::value::{formula_named, reading_of, space_named, white_named};
 use colour::placed::{Space, Written};
@@ -81,6 +81,8 @@ fn factor_lines(blank: Settings, rest: Rest) -> Result<(Settings, Rest), WrongLi
     ensures line { IfOk result (λ x. x.1.line ≤ 5) }
     ensures value { GoesOn (factor_lines rest.entry.line blank rest.entry.text.now) result
         (λ x. tol_line x.1.line x.0 x.1.text.now) }
+    ensures one { (next : Next) → GoesOn (factors_then next rest.entry.line blank rest.entry.text.now) result
+        (λ x. next x.1.line x.0 x.1.text.now) }
 {
     if starts(rest.text, b"tol=") {
         return Ok((blank, rest));
@@ -97,6 +99,8 @@ fn setting_lines(rest: Rest) -> Result<(Settings, Rest), WrongLine>
     ensures line { IfOk result (λ x. x.1.line ≤ 6) }
     ensures value { GoesOn (formula_line rest.entry.line rest.entry.text.now) result
         (λ x. space_line x.1.line x.0 x.1.text.now) }
+    ensures one { (next : Next) → GoesOn (settings_then next rest.entry.line rest.entry.text.now) result
+        (λ x. next x.1.line x.0 x.1.text.now) }
 {
     let formula = formula_named(rest.value(b"formula=")).ok_or(rest.wrong())?;
     let rest = rest.next();
