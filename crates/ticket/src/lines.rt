@@ -4,8 +4,8 @@ ghost use Rattle.colour.specs.declared.white.White.{White};
 ghost use Rattle.sheet.specs.declared.formula.Formula.{Formula};
 ghost use Rattle.sheet.specs.declared.settings.Settings.{Settings};
 ghost use Rattle.text.specs.Bytes.{after};
-ghost use Rattle.ticket.specs.Ticket.{factor_lines, tol_line, space_line, filled, blank, ticket_of};
-ghost use Rattle.ticket.specs.Ticket.Laws.{value_of, formula_line, GoesOn};
+ghost use Rattle.ticket.specs.Ticket.{factor_lines, tol_line, space_line, ticket_of};
+ghost use Rattle.ticket.specs.Ticket.Laws.{value_of, formula_line, GoesOn, Next, factors_then, settings_then};
 
 use crate::value::{formula_named, reading_of, space_named, white_named};
 use colour::placed::{Space, Written};
@@ -74,21 +74,23 @@ const MISSING_L: u64 = 2000;
 
 const MISSING_C: u64 = 1000;
 
-// l and c, and what is left after their lines. A line tol= here says that both are missing.
-fn factor_lines(rest: Rest) -> Result<(u64, u64, Rest), WrongLine>
+// The settings with l and c filled in, and what is left after their lines. A line tol= here says that both are missing:
+// the blank form has what that means.
+fn factor_lines(blank: Settings, rest: Rest) -> Result<(Settings, Rest), WrongLine>
     requires { rest.line ≤ 3 }
-    ensures line { IfOk result (λ x. x.2.line ≤ 5) }
-    ensures value { (f : Formula) (w : White) →
-        GoesOn (factor_lines rest.entry.line (blank f w) rest.entry.text.now) result
-        (λ x. tol_line x.2.line (filled (blank f w) x.0 x.1 0) x.2.text.now) }
+    ensures line { IfOk result (λ x. x.1.line ≤ 5) }
+    ensures value { GoesOn (factor_lines rest.entry.line blank rest.entry.text.now) result
+        (λ x. tol_line x.1.line x.0 x.1.text.now) }
+    ensures one { (next : Next) → GoesOn (factors_then next rest.entry.line blank rest.entry.text.now) result
+        (λ x. next x.1.line x.0 x.1.text.now) }
 {
     if starts(rest.text, b"tol=") {
-        return Ok((MISSING_L, MISSING_C, rest));
+        return Ok((blank, rest));
     }
     let l = thousandths(rest.value(b"l=")).ok_or(rest.wrong())?;
     let rest = rest.next();
     let c = thousandths(rest.value(b"c=")).ok_or(rest.wrong())?;
-    Ok((l, c, rest.next()))
+    Ok((Settings { l, c, ..blank }, rest.next()))
 }
 
 // The settings, and what is left after their lines.
@@ -97,18 +99,25 @@ fn setting_lines(rest: Rest) -> Result<(Settings, Rest), WrongLine>
     ensures line { IfOk result (λ x. x.1.line ≤ 6) }
     ensures value { GoesOn (formula_line rest.entry.line rest.entry.text.now) result
         (λ x. space_line x.1.line x.0 x.1.text.now) }
+    ensures one { (next : Next) → GoesOn (settings_then next rest.entry.line rest.entry.text.now) result
+        (λ x. next x.1.line x.0 x.1.text.now) }
 {
     let formula = formula_named(rest.value(b"formula=")).ok_or(rest.wrong())?;
     let rest = rest.next();
     let white = white_named(rest.value(b"white=")).ok_or(rest.wrong())?;
-    let (l, c, rest) = factor_lines(rest.next())?;
-    let tolerance = thousandths(rest.value(b"tol=")).ok_or(rest.wrong())?;
-    let settings = Settings {
+    // The tolerance is filled in by its line, which no ticket lacks.
+    let blank = Settings {
         formula,
         white,
-        l,
-        c,
+        l: MISSING_L,
+        c: MISSING_C,
+        tolerance: 0,
+    };
+    let (settings, rest) = factor_lines(blank, rest.next())?;
+    let tolerance = thousandths(rest.value(b"tol=")).ok_or(rest.wrong())?;
+    let settings = Settings {
         tolerance,
+        ..settings
     };
     Ok((settings, rest.next()))
 }

@@ -16,7 +16,7 @@ use Rattle.text.specs.Bytes.Laws.{Found, drop_is}
 use Rattle.text.specs.Number.{digits_of, decimal_of, thousandths_of, signed_of}
 use Rattle.ticket.specs.Ticket.{named, formula_named, white_named, space_named, three, reading_of, or_wrong}
 use Rattle.colour.specs.Placed.{in_space}
-use Rattle.ticket.specs.Ticket.{Parsed, wrong_line, due, nothing_more, tol_line, c_line, filled, factor_lines, white_line, ticket_of}
+use Rattle.ticket.specs.Ticket.{Parsed, wrong_line, due, nothing_more, tol_line, c_line, filled, factor_lines, blank, white_line, ticket_of}
 
 -- what was read of the lines that `whole` speaks of is what it goes on with, or their first wrong line is its own
 abbrev pub GoesOn : {A : Type 0} → (whole : Parsed) → Result A WrongLine → (next : A → Parsed) → Type 0
@@ -27,6 +27,27 @@ GoesOn whole r next = MatchResult r (λ x. whole ≡ next x) (λ e. whole ≡ Er
 -- the first line of all, and what follows
 abbrev pub formula_line : ℕ → List ℕ → Parsed
 formula_line n = due n (ascii "formula=") formula_named (white_line (n + 1))
+
+-- ---- the lines up to tol, whatever comes next
+
+-- by the number of its first line, the settings so far and the text
+abbrev pub Next : Type 0
+Next = ℕ → Settings → List ℕ → Parsed
+
+-- l and c, or neither
+abbrev pub factors_then : Next → Next
+factors_then next n p s =
+    cond (starts_with (ascii "tol=") s) (next n p s)
+    (due n (ascii "l=") thousandths_of
+    (λ l. due (n + 1) (ascii "c=") thousandths_of (λ c. next (n + 1 + 1) (filled p l c p.tolerance))) s)
+
+abbrev pub tol_then : Next → Next
+tol_then next n p = due n (ascii "tol=") thousandths_of (λ x. next (n + 1) (filled p p.l p.c x))
+
+abbrev pub settings_then : Next → ℕ → List ℕ → Parsed
+settings_then next n =
+    due n (ascii "formula=") formula_named
+    (λ f. due (n + 1) (ascii "white=") white_named (λ w. factors_then (tol_then next) (n + 1 + 1) (blank f w)))
 
 -- the value of the first line, if it has the key and its LF
 unfoldable pub value_of : (key s : List ℕ) → List ℕ
