@@ -101,7 +101,8 @@ fn sort_in(white: White, l: u64, c: u64, cones: &Cones<'_>, de: &mut [f64]) -> S
     }
 }
 
-// Sorts a delivery: 11, 2, 3, then each cone in turn.
+// Sorts a delivery: 11, 2, 3, then each cone in turn. The slices by themselves, as C lends them: within, three of them
+// are `Cones`.
 pub fn sort(
     space: Space,
     white: u32,

@@ -12,6 +12,7 @@ use report::{report_len, write_report};
 use standard::judge::Judgement;
 use ticket::lines::parse;
 
+// A count, and no Option, as of `printed`: 0 where `out` is too short.
 fn print_report(j: Judgement, out: &mut [u8]) -> usize
     ensures { Prints out.old (report_text j) result out.new }
 {

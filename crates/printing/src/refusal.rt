@@ -17,7 +17,7 @@ fn put_refusal(dst: &mut [u8], number: u64, line: u64) -> usize
 }
 
 // Puts the line at the start of `out`, and answers how many bytes that is; where `out` is too short for it, the answer
-// is 0 and `out` stays.
+// is 0 and `out` stays. A count, and no Option, as of `printed`.
 pub(crate) fn print_refusal(number: u64, line: u64, out: &mut [u8]) -> usize
     ensures { Prints out.old (refusal_line number line) result out.new }
 {

@@ -10,7 +10,8 @@ use reading::grid::Grid;
 use sheet::settings::Settings;
 use standard::accept::{LoadNumbers, Standard, settings_of};
 
-// The bytes of a record's numbers: of a longer number only so many bytes as it has there.
+// The bytes of a record's numbers: of a longer number only so many bytes as it has there. Eight numbers by themselves: in
+// this order they are written once.
 fn record_of(
     formula: u32,
     white: u32,

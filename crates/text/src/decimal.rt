@@ -1,4 +1,5 @@
-// Whole numbers and decimals put into a lent slice, and their lengths.
+// Whole numbers and decimals put into a lent slice, and their lengths. No `Display`: they are bytes, and there is no
+// formatter.
 ghost use Rattle.std.specs.Prelude.{◌≡◌, ◌+◌, ◌≤◌, length};
 ghost use Rattle.text.specs.Put.{Room, Puts};
 ghost use Rattle.text.specs.Decimal.{whole_text, last_digits, minus_sign, decimal_text};
