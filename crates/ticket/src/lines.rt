@@ -1,7 +1,5 @@
 // The lines of a ticket, one after the other.
 ghost use Rattle.std.specs.Prelude.{◌≡◌, ◌+◌, ◌≤◌, IfOk, Ok};
-ghost use Rattle.colour.specs.declared.white.White.{White};
-ghost use Rattle.sheet.specs.declared.formula.Formula.{Formula};
 ghost use Rattle.sheet.specs.declared.settings.Settings.{Settings};
 ghost use Rattle.text.specs.Bytes.{after};
 ghost use Rattle.ticket.specs.Ticket.{factor_lines, tol_line, space_line, ticket_of};
@@ -75,7 +73,7 @@ const MISSING_L: u64 = 2000;
 const MISSING_C: u64 = 1000;
 
 // The settings with l and c filled in, and what is left after their lines. A line tol= here says that both are missing:
-// the blank form has what that means.
+// the blank form has what that means. What comes next has no part in it (`one`): a wrong line is wrong here.
 fn factor_lines(blank: Settings, rest: Rest) -> Result<(Settings, Rest), WrongLine>
     requires { rest.line ≤ 3 }
     ensures line { IfOk result (λ x. x.1.line ≤ 5) }

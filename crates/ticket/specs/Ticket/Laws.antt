@@ -198,6 +198,17 @@ module _ (n : ℕ) (p : Settings) (s : List ℕ) {b : Bool} (e : b ≡ starts_wi
   unfolding factor_lines
   factors_given h = sym (rw (← e, h))
 
+module _ (next : Next) (n : ℕ) (p : Settings) (s : List ℕ) {b : Bool} (e : b ≡ starts_with (ascii "tol=") s) where
+  pub then_missing : b ≡ true → factors_then next n p s ≡ next n p s
+  then_missing h = rw (← e, h)
+
+  pub then_given :
+      b ≡ false
+      → factors_then next n p s
+      ≡ due n (ascii "l=") thousandths_of
+      (λ l. due (n + 1) (ascii "c=") thousandths_of (λ c. next (n + 1 + 1) (filled p l c p.tolerance))) s
+  then_given h = rw (← e, h)
+
 module _ (s : List ℕ) where
   pub ticket_of_long : 4096 < length s → wrong_line 0 ≡ ticket_of s
   unfolding ticket_of
