@@ -30,12 +30,14 @@ pub(crate) fn judge_outcome(station: &[u8], r: Reading) -> Outcome
 }
 
 // A ticket by its text, parsed: a load, and then a judgement by what it brings. It neither reads nor changes a loaded
-// standard.
+// standard. No `?` for the text: what it hands on would be copied before the first line is known to be wrong.
 #[tactic(auto, unfolding(crate::specs::Outcome::ticket_outcome))]
 pub fn ticket_outcome(p: Parsed) -> Outcome
     ensures { result ≡ ticket_outcome p }
 {
-    let t = p.map_err(|_| Refusal::Ticket)?;
+    let Ok(t) = p else {
+        return Err(Refusal::Ticket);
+    };
     let white = t.settings.white;
     let s = accept(t.settings, place(t.reference, white))?;
     judge(s, place(t.test, white))

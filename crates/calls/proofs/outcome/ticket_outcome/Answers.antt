@@ -7,7 +7,7 @@ use Rattle.calls.proofs.outcome.ticket_outcome.Goals as goal
 
 pub judge-requires : goal.judge-requires
 judge-requires c =
-    let t = c.in_ok-t.t in
+    let t = c.in-Ok.t in
     record {
       standard =
           accepted-valid t.settings c.place.result
