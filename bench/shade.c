@@ -100,8 +100,36 @@ static int divisions(void)
     return refused != 0;
 }
 
+/* Whether each judgement of a pair takes as few instructions as docs/PERFORMANCE.md holds it to. */
+static int held(void)
+{
+    static const struct {
+        const char *name;
+        int (*judge)(int i);
+        uint64_t most;
+    } bars[] = {{"judge_lab", judge_lab, 2675}, {"judge_xyz", judge_xyz, 3600}};
+    int above = 0;
+    make_pairs();
+    for (int i = 0; i < PAIRS; i++)
+        above |= load(i);
+    for (int b = 0; b < 2; b++) {
+        uint64_t most = 0;
+        for (int i = 0; i < PAIRS; i++) {
+            walk_on();
+            above |= bars[b].judge(i);
+            walk_off();
+            most = walked.all > most ? walked.all : most;
+        }
+        above |= most > bars[b].most || most == 0;
+        printf("%s: at most %d instructions, of %d\n", bars[b].name, (int)most, (int)bars[b].most);
+    }
+    return above != 0;
+}
+
 int main(int count, char **words)
 {
+    if (count == 2 && strcmp(words[1], "held") == 0)
+        return held();
     if (count == 2 && strcmp(words[1], "divisions") == 0)
         return divisions();
     return run(rows, load, count, words);
