@@ -12,7 +12,7 @@ use standard::judge::Outcome;
 use station::store;
 use ticket::lines::parse;
 
-// Loads a standard into the station's slice. Taken into both entries of the library, as it was when it was shorter.
+// Loads a standard into the station's slice. Taken into its two callers, the library's entries, which do nothing else.
 #[inline]
 pub fn load_call(station: &mut [u8], n: LoadNumbers, r: Reading) -> Result<(), Refusal>
     ensures { Gives (load_call station.old n.formula n.white n.l n.c n.tolerance r)
