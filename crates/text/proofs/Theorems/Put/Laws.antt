@@ -4,6 +4,7 @@ use Rattle.std.specs.Prelude.{◌≡◌, refl, List, [], ◌∷◌, ◌++◌, �
 use Rattle.std.proofs.Common.{sym, ap, ◌∙◌, subst, append_assoc, append-nil, arith, add-one, add-zero, zero-add, add_assoc, length-append, length-take, length-drop, take-append-drop, drop_of_length-le, take_all, take_at, drop-drop, take-suc, length-take-le}
 use Rattle.std.proofs.Math.Seq.{paste, take-length, drop-append-add}
 use Rattle.std.proofs.lemmas.List.{set_at}
+use Rattle.text.specs.Ascii.{ascii}
 use Rattle.text.specs.Put.{put_at, Room, Puts, joined, line}
 
 -- ---- one put
@@ -76,6 +77,7 @@ part-put xs at s h =
 pub puts_nil : (xs : List ℕ) (at : ℕ) → Puts xs at [] at xs
 puts_nil xs at = record { end = sym (add-zero at); bytes = sym (put-nil xs at) }
 
+-- one byte stored
 pub puts_byte : (xs : List ℕ) (at b : ℕ) → Room xs at (b ∷ []) → Puts xs at (b ∷ []) (at + 1) (set xs at b)
 puts_byte xs at b h =
     record {
@@ -182,3 +184,27 @@ pub puts_four :
     {xs ys zs vs ws s t u v : List ℕ} {at a b c d : ℕ} → RoomForAll xs at (s ∷ t ∷ u ∷ v ∷ []) →
     Puts xs at s a ys → Puts ys a t b zs → Puts zs b u c vs → Puts vs c v d ws → PutsAll xs at (s ∷ t ∷ u ∷ v ∷ []) d ws
 puts_four h p q r o = puts_more h p (puts_three (room-rest h p) q r o)
+
+-- ---- a line in three puts: its key, what it says, its LF
+
+module _ (key value : List ℕ) {xs : List ℕ} {at : ℕ} where
+  line_row : Room xs at (line key value) → RoomForAll xs at (key ∷ value ∷ ascii "\n" ∷ [])
+  unfolding line
+  line_row h = room_for_all (key ∷ value ∷ ascii "\n" ∷ []) h
+
+  pub line_key : Room xs at (line key value) → Room xs at key
+  line_key h = room_first (line_row h)
+
+  pub line_value : {a : ℕ} {ys : List ℕ} → Room xs at (line key value) → Puts xs at key a ys → Room ys a value
+  line_value h p = room-second (line_row h) p
+
+  pub line_end :
+      {a b : ℕ} {ys zs : List ℕ} → Room xs at (line key value) → Puts xs at key a ys → Puts ys a value b zs →
+      Room zs b (ascii "\n")
+  line_end h p q = room-third (line_row h) p q
+
+  pub puts_line :
+      {a b c : ℕ} {ys zs vs : List ℕ} → Room xs at (line key value) → Puts xs at key a ys → Puts ys a value b zs →
+      Puts zs b (ascii "\n") c vs → Puts xs at (line key value) c vs
+  unfolding line
+  puts_line h p q r = puts_joined (puts_three (line_row h) p q r)
